@@ -1,0 +1,13 @@
+pub mod Signed
+pub mod Weights
+pub mod Sides
+pub mod Turns
+pub mod Bound
+pub mod Narrowing
+pub mod Roots
+pub mod Corners
+pub mod Obstructing
+pub mod Squares
+pub mod Searching
+pub mod Below
+pub mod Convexities

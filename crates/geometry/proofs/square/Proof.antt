@@ -1,0 +1,15 @@
+use Rattle.geometry.proofs.square.Statement.{statement}
+use Rattle.geometry.proofs.square.Tie as tie
+use Rattle.geometry.proofs.square.Reads as reads
+use Rattle.geometry.proofs.square.Lts as lts
+use native.Mathlib.Omega.{arith}
+use native.Mathlib.Nat.{mul-le-mul}
+
+mul-result : tie.Need-mul-result
+mul-result c = omega (arith, mul-le-mul (c .pre) (c .pre))
+
+returns : tie.Need-returns
+returns c = omega (arith, mul-le-mul (c .pre) (c .pre))
+
+pub square-spec : {M : Type 1} → statement M
+square-spec = tie.close (tie.spec mul-result returns)

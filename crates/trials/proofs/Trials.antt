@@ -1,0 +1,75 @@
+-- The starred rows of document 01, "Trial yards", as theorems about the definitions.
+use mathlib.Core.Path.{_≡_, refl}
+use mathlib.Core.List.{List, [], _∷_}
+use mathlib.Core.Bool.{false}
+use lib.Dec.{lit<, lit≤}
+use Rattle.geometry.specs.Words.{Point, point}
+use Rattle.geometry.specs.Obstruction.{turn, sideTurn, Obstructs}
+use Rattle.geometry.specs.Convexity.{allBelow, sideTest, convex}
+use Rattle.geometry.specs.Length.{lengthOf, rootUp}
+use Rattle.geometry.proofs.Roots.{root-at}
+use Rattle.trials.proofs.Sight.{obstructed, seen-hidden, seen-clear}
+
+-- square S, and the block beside it
+abbrev S : List Point
+S = point 10 10 ∷ point 20 10 ∷ point 20 20 ∷ point 10 20 ∷ []
+
+abbrev beside : List Point
+beside = point 20 10 ∷ point 30 10 ∷ point 30 20 ∷ point 20 20 ∷ []
+
+abbrev Clear : List Point → Point → Point → Type 0
+Clear ps a b = Obstructs ps a b → ⊥
+
+along-a-side : Clear S (point 0 10) (point 30 10)
+unfolding obstructed allBelow sideTurn turn
+along-a-side = seen-clear S (point 0 10) (point 30 10) refl
+
+just-inside : Obstructs S (point 0 11) (point 30 11)
+unfolding obstructed allBelow sideTurn turn
+just-inside = seen-hidden S (point 0 11) (point 30 11) refl
+
+corner-to-corner : Obstructs S (point 10 10) (point 20 20)
+unfolding obstructed allBelow sideTurn turn
+corner-to-corner = seen-hidden S (point 10 10) (point 20 20) refl
+
+touches-a-corner : Clear S (point 0 20) (point 20 0)
+unfolding obstructed allBelow sideTurn turn
+touches-a-corner = seen-clear S (point 0 20) (point 20 0) refl
+
+-- though no whole point of it is inside
+between-whole-points : Obstructs S (point 0 21) (point 21 0)
+unfolding obstructed allBelow sideTurn turn
+between-whole-points = seen-hidden S (point 0 21) (point 21 0) refl
+
+place-inside : Obstructs S (point 15 15) (point 15 15)
+unfolding obstructed allBelow sideTurn turn
+place-inside = seen-hidden S (point 15 15) (point 15 15) refl
+
+place-on-a-side : Clear S (point 10 15) (point 10 15)
+unfolding obstructed allBelow sideTurn turn
+place-on-a-side = seen-clear S (point 10 15) (point 10 15) refl
+
+along-a-seam : Clear S (point 20 0) (point 20 30) × Clear beside (point 20 0) (point 20 30)
+unfolding obstructed allBelow sideTurn turn
+along-a-seam = (seen-clear S (point 20 0) (point 20 30) refl, seen-clear beside (point 20 0) (point 20 30) refl)
+
+-- the five-corner star turns left at each corner and is not convex
+star : convex (point 10 0 ∷ point 16 20 ∷ point 0 8 ∷ point 20 8 ∷ point 4 20 ∷ []) ≡ false
+unfolding convex sideTest allBelow sideTurn turn
+star = refl
+
+length-none : lengthOf (point 0 0) (point 0 0) ≡ 0
+unfolding lengthOf rootUp
+length-none = refl
+
+length-diagonal : lengthOf (point 0 0) (point 1 1) ≡ 2
+unfolding lengthOf
+length-diagonal = root-at 2 1 (lit< tt) (lit≤ tt)
+
+length-three-four : lengthOf (point 0 0) (point 3 4) ≡ 5
+unfolding lengthOf
+length-three-four = root-at 25 4 (lit< tt) (lit≤ tt)
+
+length-across : lengthOf (point 0 0) (point 32767 32767) ≡ 46340
+unfolding lengthOf
+length-across = root-at 2147352578 46339 (lit< tt) (lit≤ tt)
