@@ -1,0 +1,7 @@
+pub mod Steps
+pub mod Yard
+pub mod Turn
+pub mod Written
+pub mod Walks
+pub mod Unique
+pub mod Fits

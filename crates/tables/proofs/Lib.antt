@@ -1,0 +1,4 @@
+pub mod Pairs
+pub mod Splices
+pub mod Kept
+pub mod Marks
