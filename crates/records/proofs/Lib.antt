@@ -1,0 +1,5 @@
+pub mod Every
+pub mod Answers
+pub mod Fits
+pub mod Filled
+pub mod Shifting

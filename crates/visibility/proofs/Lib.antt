@@ -1,0 +1,5 @@
+pub mod Lasting
+pub mod Unique
+pub mod Exists
+pub mod Bytes
+pub mod Rows

@@ -1,0 +1,44 @@
+-- What the pair table should hold, and what an edit makes of it. Document 01, "Marks" and the paragraph "An accepted edit of block n treats pairs so".
+use mathlib.Core.Path.{_≡_}
+use mathlib.Core.List.{List}
+use mathlib.Core.Bool.{Bool, true, false, _&&_}
+use mathlib.Core.Logic.{_⊎_}
+use Prim.Native.Nat.{ℕ, _<_}
+use lib.ListN.{length}
+use Rattle.geometry.specs.Words.{word}
+use Rattle.geometry.specs.Obstruction.{Hidden}
+use Rattle.tables.specs.Tables.{Records, present, placeOf, pairIndex, OnBlock, OnRun}
+
+-- block n hides the straight between marks i and j
+abbrev pub Hides : Records → ℕ → ℕ → ℕ → Type 0
+Hides R n i j = Hidden (R .blocks) n (placeOf R i) (placeOf R j)
+
+-- both marks are present
+abbrev pub bothPresent : Records → ℕ → ℕ → Bool
+bothPresent R i j = present R i && present R j
+
+-- b is the byte that the stored blocks and runs require for marks i and j
+pub data PairIs (R : Records) (i j b : ℕ) : Type 0 where
+  absent : bothPresent R i j ≡ false → b ≡ 255 → PairIs R i j b
+  clear : bothPresent R i j ≡ true → ((n : ℕ) → n < 24 → Hides R n i j → ⊥) → b ≡ 254 → PairIs R i j b
+  hidden : bothPresent R i j ≡ true → b < 24 → Hides R b i j → ((n : ℕ) → n < b → Hides R n i j → ⊥) → PairIs R i j b
+
+-- the byte of marks i and j before and after an edit of block n; R are the records as they now stand
+pub record BlockPair (R : Records) (n i j old new : ℕ) : Type 0 where
+  pub fresh : (OnBlock n i ⊎ OnBlock n j) ⊎ (old ≡ n) → PairIs R i j new
+  pub covered : (OnBlock n i → ⊥) → (OnBlock n j → ⊥) → bothPresent R i j ≡ true → n < old → Hides R n i j → new ≡ n
+  pub kept : (OnBlock n i → ⊥) → (OnBlock n j → ⊥) → (old ≡ n → ⊥) → (bothPresent R i j ≡ true → n < old → Hides R n i j → ⊥) → new ≡ old
+
+-- the same of an edit of run m
+pub record RunPair (R : Records) (m i j old new : ℕ) : Type 0 where
+  pub fresh : OnRun m i ⊎ OnRun m j → PairIs R i j new
+  pub kept : (OnRun m i → ⊥) → (OnRun m j → ⊥) → new ≡ old
+
+-- the pair table before and after an edit of block n, and of run m
+pub record BlockRedrawn (R : Records) (n : ℕ) (old new : List ℕ) : Type 0 where
+  pub sized : length new ≡ 28680
+  pub each : (i j : ℕ) → i < j → j < 240 → BlockPair R n i j (word old (pairIndex i j)) (word new (pairIndex i j))
+
+pub record RunRedrawn (R : Records) (m : ℕ) (old new : List ℕ) : Type 0 where
+  pub sized : length new ≡ 28680
+  pub each : (i j : ℕ) → i < j → j < 240 → RunPair R m i j (word old (pairIndex i j)) (word new (pairIndex i j))
