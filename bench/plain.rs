@@ -1,0 +1,480 @@
+//! The same algorithm as the proved planner, in plain Rust: the yardstick of the benchmark.
+//! Also a redraw from nothing, for comparison.
+
+pub const BLOCKS: usize = 408;
+pub const RUNS: usize = 120;
+pub const PAIRS: usize = 28680;
+pub const ROUTES: usize = 4728;
+
+/// The four lent tables.
+pub struct Yard<'a> {
+    pub blocks: &'a mut [u16],
+    pub runs: &'a mut [u16],
+    pub pairs: &'a mut [u8],
+    pub routes: &'a mut [u32],
+}
+
+type Place = (u16, u16);
+
+/// Twice the area of P, Q, D: above 0 where D is left of the side from P to Q.
+fn turn(p: Place, q: Place, d: Place) -> i64 {
+    (q.0 as i64 - p.0 as i64) * (d.1 as i64 - p.1 as i64) - (q.1 as i64 - p.1 as i64) * (d.0 as i64 - p.0 as i64)
+}
+
+fn corner(block: &[u16], k: usize) -> Place {
+    (block[1 + 2 * k], block[2 + 2 * k])
+}
+
+fn convex(block: &[u16]) -> bool {
+    let count = block[0] as usize;
+    for k in 0..count {
+        let next = if k + 1 == count { 0 } else { k + 1 };
+        for other in 0..count {
+            if other != k && other != next && turn(corner(block, k), corner(block, next), corner(block, other)) <= 0 {
+                return false;
+            }
+        }
+    }
+    true
+}
+
+/// Whether a block hides the straight from a to b. The part of the straight inside the block starts at the
+/// tightest side that a is not left of, and finishes at the tightest side that b is not left of.
+fn hides(block: &[u16], a: Place, b: Place) -> bool {
+    let count = block[0] as usize;
+    if count == 0 {
+        return false;
+    }
+    let mut enter = (1i64, 1i64);
+    let mut leave = (1i64, 1i64);
+    let mut p = corner(block, count - 1);
+    for k in 0..count {
+        let q = corner(block, k);
+        let from = turn(p, q, a);
+        let to = turn(p, q, b);
+        p = q;
+        if from <= 0 {
+            if to <= 0 {
+                return false;
+            }
+            if enter.0 > 0 || from * enter.1 < enter.0 * to {
+                enter = (from, to);
+            }
+        } else if to <= 0 && (leave.1 > 0 || from * leave.1 > leave.0 * to) {
+            leave = (from, to);
+        }
+    }
+    enter.0 > 0 || leave.1 > 0 || enter.0 * leave.1 < leave.0 * enter.1
+}
+
+fn block_words(blocks: &[u16], n: usize) -> &[u16] {
+    &blocks[17 * n..17 * n + 17]
+}
+
+fn lowest_hider(blocks: &[u16], a: Place, b: Place) -> u8 {
+    for n in 0..24 {
+        if hides(block_words(blocks, n), a, b) {
+            return n as u8;
+        }
+    }
+    254
+}
+
+fn squares(a: Place, b: Place) -> u32 {
+    let east = a.0.abs_diff(b.0) as u32;
+    let north = a.1.abs_diff(b.1) as u32;
+    east * east + north * north
+}
+
+fn root_down(x: u32) -> u32 {
+    if x == 0 {
+        return 0;
+    }
+    let half = 2 * root_down(x / 4);
+    if (half + 1) * (half + 1) <= x {
+        half + 1
+    } else {
+        half
+    }
+}
+
+fn root_up(x: u32) -> u32 {
+    let r = root_down(x);
+    if r * r < x {
+        r + 1
+    } else {
+        r
+    }
+}
+
+fn pair_index(i: usize, j: usize) -> usize {
+    if i < j {
+        j * (j - 1) / 2 + i
+    } else {
+        i * (i - 1) / 2 + j
+    }
+}
+
+fn present(blocks: &[u16], runs: &[u16], mark: usize) -> bool {
+    if mark < 192 {
+        mark % 8 < blocks[17 * (mark / 8)] as usize
+    } else {
+        runs[5 * ((mark - 192) / 2)] == 1
+    }
+}
+
+fn place(blocks: &[u16], runs: &[u16], mark: usize) -> Place {
+    let (table, at) = if mark < 192 {
+        (blocks, 17 * (mark / 8) + 1 + 2 * (mark % 8))
+    } else {
+        (runs, 5 * ((mark - 192) / 2) + 1 + 2 * (mark % 2))
+    };
+    (table[at], table[at + 1])
+}
+
+fn fresh_byte(blocks: &[u16], runs: &[u16], i: usize, j: usize) -> u8 {
+    byte_with(blocks, runs, i, present(blocks, runs, j), place(blocks, runs, j))
+}
+
+/// The byte of mark i and another mark, of which presence and place are known.
+fn byte_with(blocks: &[u16], runs: &[u16], i: usize, there: bool, b: Place) -> u8 {
+    if !there || !present(blocks, runs, i) {
+        return 255;
+    }
+    lowest_hider(blocks, place(blocks, runs, i), b)
+}
+
+fn block_allowed(words: &[u16]) -> bool {
+    let count = words[0] as usize;
+    if count == 0 {
+        return words.iter().all(|&w| w == 0);
+    }
+    (3..=8).contains(&count)
+        && words[1 + 2 * count..].iter().all(|&w| w == 0)
+        && words[1..1 + 2 * count].iter().all(|&w| w <= 32767)
+        && convex(words)
+}
+
+fn run_allowed(words: &[u16]) -> bool {
+    words.iter().all(|&w| w == 0) || (words[0] == 1 && words[1..].iter().all(|&w| w <= 32767))
+}
+
+const NONE: u32 = u32::MAX;
+
+/// For each mark 256 x length + straights of the best chain from it to the second end, as far as known.
+type Keys = [u32; 240];
+
+impl Yard<'_> {
+    fn question_1(&self) -> bool {
+        self.blocks.len() == BLOCKS && self.runs.len() == RUNS && self.pairs.len() == PAIRS && self.routes.len() == ROUTES
+    }
+
+    fn question_2(&self) -> bool {
+        (0..24).all(|n| block_allowed(block_words(self.blocks, n))) && (0..24).all(|m| run_allowed(&self.runs[5 * m..5 * m + 5]))
+    }
+
+    /// Questions 1, 2, 3, and 4 or 5.
+    fn refusal(&self, number: u32, of_blocks: bool, taken: bool) -> u32 {
+        if !self.question_1() {
+            return 1;
+        }
+        if !self.question_2() {
+            return 2;
+        }
+        if number >= 24 {
+            return 3;
+        }
+        let n = number as usize;
+        let word = if of_blocks { self.blocks[17 * n] } else { self.runs[5 * n] };
+        match (word != 0, taken) {
+            (true, false) => 4,
+            (false, true) => 5,
+            _ => 0,
+        }
+    }
+
+    pub fn start(&mut self) -> u32 {
+        if !self.question_1() {
+            return 1;
+        }
+        self.blocks.fill(0);
+        self.runs.fill(0);
+        self.pairs.fill(255);
+        self.routes.fill(0);
+        0
+    }
+
+    pub fn add_block(&mut self, number: u32, corners: &[u16]) -> u32 {
+        let answer = self.refusal(number, true, false);
+        if answer != 0 {
+            return answer;
+        }
+        if corners.len() < 6 || corners.len() > 16 || corners.len() % 2 != 0 {
+            return 6;
+        }
+        if corners.iter().any(|&w| w > 32767) {
+            return 7;
+        }
+        let mut words = [0u16; 17];
+        words[0] = (corners.len() / 2) as u16;
+        words[1..1 + corners.len()].copy_from_slice(corners);
+        if !convex(&words) {
+            return 8;
+        }
+        self.write_block(number as usize, &words)
+    }
+
+    pub fn remove_block(&mut self, number: u32) -> u32 {
+        let answer = self.refusal(number, true, true);
+        if answer != 0 {
+            return answer;
+        }
+        self.write_block(number as usize, &[0u16; 17])
+    }
+
+    /// The words of the block after a move, or the number of the question that refuses it.
+    fn moved(&self, number: u32, east: i16, north: i16) -> Result<[u16; 17], u32> {
+        let answer = self.refusal(number, true, true);
+        if answer != 0 {
+            return Err(answer);
+        }
+        let mut words = [0u16; 17];
+        words.copy_from_slice(block_words(self.blocks, number as usize));
+        for k in 0..words[0] as usize {
+            let to = (words[1 + 2 * k] as i32 + east as i32, words[2 + 2 * k] as i32 + north as i32);
+            if to.0 < 0 || to.0 > 32767 || to.1 < 0 || to.1 > 32767 {
+                return Err(7);
+            }
+            words[1 + 2 * k] = to.0 as u16;
+            words[2 + 2 * k] = to.1 as u16;
+        }
+        Ok(words)
+    }
+
+    pub fn move_block(&mut self, number: u32, east: i16, north: i16) -> u32 {
+        match self.moved(number, east, north) {
+            Ok(words) => self.write_block(number as usize, &words),
+            Err(answer) => answer,
+        }
+    }
+
+    /// The same move, with all pairs and all routes drawn from nothing.
+    pub fn move_block_and_redraw(&mut self, number: u32, east: i16, north: i16) -> u32 {
+        match self.moved(number, east, north) {
+            Ok(words) => {
+                let n = number as usize;
+                self.blocks[17 * n..17 * n + 17].copy_from_slice(&words);
+                self.redraw_all_pairs();
+                self.write_routes();
+                0
+            }
+            Err(answer) => answer,
+        }
+    }
+
+    pub fn add_run(&mut self, number: u32, ends: [u16; 4]) -> u32 {
+        self.set_run(number, ends, false)
+    }
+
+    pub fn move_run(&mut self, number: u32, ends: [u16; 4]) -> u32 {
+        self.set_run(number, ends, true)
+    }
+
+    fn set_run(&mut self, number: u32, ends: [u16; 4], taken: bool) -> u32 {
+        let answer = self.refusal(number, false, taken);
+        if answer != 0 {
+            return answer;
+        }
+        if ends.iter().any(|&w| w > 32767) {
+            return 7;
+        }
+        self.write_run(number as usize, [1, ends[0], ends[1], ends[2], ends[3]])
+    }
+
+    pub fn remove_run(&mut self, number: u32) -> u32 {
+        let answer = self.refusal(number, false, true);
+        if answer != 0 {
+            return answer;
+        }
+        self.write_run(number as usize, [0; 5])
+    }
+
+    pub fn check(&mut self) -> u32 {
+        if !self.question_1() {
+            return 1;
+        }
+        if !self.question_2() {
+            return 2;
+        }
+        for j in 1..240 {
+            for i in 0..j {
+                if self.pairs[pair_index(i, j)] != fresh_byte(self.blocks, self.runs, i, j) {
+                    return 11;
+                }
+            }
+        }
+        let stored = self.routes.to_vec();
+        self.write_routes();
+        let right = stored[..] == self.routes[..];
+        self.routes.copy_from_slice(&stored);
+        if right {
+            0
+        } else {
+            11
+        }
+    }
+
+    fn write_block(&mut self, n: usize, words: &[u16; 17]) -> u32 {
+        self.blocks[17 * n..17 * n + 17].copy_from_slice(words);
+        self.redraw_after_block(n);
+        self.write_routes();
+        0
+    }
+
+    fn write_run(&mut self, m: usize, words: [u16; 5]) -> u32 {
+        self.runs[5 * m..5 * m + 5].copy_from_slice(&words);
+        for k in [192 + 2 * m, 193 + 2 * m] {
+            for other in 0..240 {
+                if other != k {
+                    self.pairs[pair_index(k, other)] = fresh_byte(self.blocks, self.runs, k, other);
+                }
+            }
+        }
+        self.write_routes();
+        0
+    }
+
+    #[inline(never)]
+    fn redraw_after_block(&mut self, n: usize) {
+        let (blocks, runs) = (&*self.blocks, &*self.runs);
+        let block = block_words(blocks, n);
+        for j in 1..240 {
+            let there = present(blocks, runs, j);
+            let b = place(blocks, runs, j);
+            let row = &mut self.pairs[j * (j - 1) / 2..j * (j - 1) / 2 + j];
+            for i in 0..j {
+                let old = row[i];
+                if i / 8 == n || j / 8 == n || old as usize == n {
+                    row[i] = byte_with(blocks, runs, i, there, b);
+                } else if there && old as usize > n && present(blocks, runs, i) && hides(block, place(blocks, runs, i), b) {
+                    row[i] = n as u8;
+                }
+            }
+        }
+    }
+
+    #[inline(never)]
+    fn redraw_all_pairs(&mut self) {
+        for j in 1..240 {
+            for i in 0..j {
+                self.pairs[pair_index(i, j)] = fresh_byte(self.blocks, self.runs, i, j);
+            }
+        }
+    }
+
+    #[inline(never)]
+    fn write_routes(&mut self) {
+        for m in 0..24 {
+            self.write_route(m);
+        }
+    }
+
+    fn clear(&self, v: usize, u: usize) -> bool {
+        self.pairs[pair_index(v, u)] == 254
+    }
+
+    fn squares_of(&self, v: usize, u: usize) -> u32 {
+        squares(place(self.blocks, self.runs, v), place(self.blocks, self.runs, u))
+    }
+
+    fn write_route(&mut self, m: usize) {
+        self.routes[197 * m..197 * m + 197].fill(0);
+        if self.runs[5 * m] == 0 {
+            return;
+        }
+        let keys = self.settle(m);
+        if keys[192 + 2 * m] == NONE {
+            self.routes[197 * m] = 2;
+        } else {
+            self.walk(m, &keys);
+        }
+    }
+
+    /// Backwards from the second end until the first is settled.
+    fn settle(&self, m: usize) -> Keys {
+        let (first, second) = (192 + 2 * m, 193 + 2 * m);
+        let mut keys = [NONE; 240];
+        let mut waiting = [0usize; 194];
+        let mut count = 0;
+        for v in (0..192).filter(|&v| present(self.blocks, self.runs, v)).chain([first]) {
+            waiting[count] = v;
+            count += 1;
+        }
+        keys[second] = 0;
+        self.relax(&mut keys, &waiting[..count], second);
+        loop {
+            let mut least = NONE;
+            let mut at = count;
+            for (k, &v) in waiting[..count].iter().enumerate() {
+                if keys[v] < least {
+                    least = keys[v];
+                    at = k;
+                }
+            }
+            if at == count || waiting[at] == first {
+                return keys;
+            }
+            let s = waiting[at];
+            count -= 1;
+            waiting[at] = waiting[count];
+            self.relax(&mut keys, &waiting[..count], s);
+        }
+    }
+
+    /// Improve the waiting marks by the straight to s. A root is asked for only where the squares show an improvement.
+    fn relax(&self, keys: &mut Keys, waiting: &[usize], s: usize) {
+        let from = place(self.blocks, self.runs, s);
+        let key = keys[s];
+        for &v in waiting {
+            if keys[v] < key + 2 || !self.clear(v, s) {
+                continue;
+            }
+            let longest = ((keys[v] - key - 2) / 256) as u64;
+            let square = squares(place(self.blocks, self.runs, v), from);
+            if square as u64 <= longest * longest {
+                keys[v] = key + 256 * root_up(square) + 1;
+            }
+        }
+    }
+
+    /// Forwards from the first end, always to the lowest mark on a best chain.
+    fn walk(&mut self, m: usize, keys: &Keys) {
+        let (first, second) = (192 + 2 * m, 193 + 2 * m);
+        let base = 197 * m;
+        self.routes[base] = 1;
+        self.routes[base + 1] = keys[first] / 256;
+        self.routes[base + 3] = first as u32;
+        let mut count = 1;
+        let mut v = first;
+        while v != second {
+            v = (0..192).find(|&u| self.tight(keys, v, u)).unwrap_or(second);
+            self.routes[base + 3 + count] = v as u32;
+            count += 1;
+        }
+        self.routes[base + 2] = count as u32;
+    }
+
+    /// Whether the straight from v to u is clear and as long as their keys say.
+    fn tight(&self, keys: &Keys, v: usize, u: usize) -> bool {
+        if keys[u] >= keys[v] {
+            return false;
+        }
+        let gap = keys[v] - keys[u];
+        if gap % 256 != 1 || !self.clear(v, u) {
+            return false;
+        }
+        let length = (gap / 256) as u64;
+        let square = self.squares_of(v, u);
+        square as u64 <= length * length && root_up(square) as u64 == length
+    }
+}

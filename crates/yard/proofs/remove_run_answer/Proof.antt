@@ -1,0 +1,44 @@
+use Rattle.yard.proofs.Answers.{unfit, in-runs, remove-run-3, remove-run-5, remove-run-0}
+use borrow.Author.Needs.{needs}
+use Rattle.yard.proofs.remove_run_answer.Statement.{statement}
+use Rattle.yard.proofs.remove_run_answer.Tie as tie
+use Rattle.yard.proofs.remove_run_answer.Reads as reads
+use Rattle.yard.proofs.remove_run_answer.Lts as lts
+use Rattle.yard.proofs.fitness.Reads as fitness-reads
+
+fitness-requires : tie.Need-fitness-requires
+fitness-requires c κs = search needs
+
+returns : tie.Need-returns
+returns c = search unfit
+
+returns-2 : tie.Need-returns-2
+returns-2 c = search remove-run-3
+
+mul-if3 : tie.Need-mul-if3
+mul-if3 c = search needs
+
+mul-if3-2 : tie.Need-mul-if3-2
+mul-if3-2 c = search needs
+
+shared-slice-read-if3 : tie.Need-shared-slice-read-if3
+shared-slice-read-if3 c = search in-runs
+
+returns-3 : tie.Need-returns-3
+returns-3 c = search remove-run-5
+
+returns-4 : tie.Need-returns-4
+returns-4 c = search remove-run-0
+
+pub remove-run-answer-spec : {M : Type 1} → statement M
+remove-run-answer-spec =
+    tie.close
+    (tie.spec
+    fitness-requires
+    returns
+    returns-2
+    mul-if3
+    mul-if3-2
+    shared-slice-read-if3
+    returns-3
+    returns-4)

@@ -1,0 +1,143 @@
+// The calls of the yard for C and Rust. Each has the contract of the call under it; a slice is passed as a pointer and a length in elements.
+ghost use Rattle.geometry.specs.Words.{point};
+ghost use Rattle.tables.specs.Tables.{tables};
+ghost use Rattle.yard.specs.Book.{addBlock, removeBlock, moveBlock, addRun, removeRun, moveRun};
+ghost use Rattle.yard.specs.Edits.{Started, Called, Checked};
+use geometry::Place;
+
+#[no_mangle]
+pub extern "C" fn yard_start(
+    blocks: &mut [u16],
+    runs: &mut [u16],
+    pairs: &mut [u8],
+    routes: &mut [u32],
+) -> u32
+    ensures { λ r. ⌜ Started (tables (now (blocks .entry)) (now (runs .entry)) (now (pairs .entry)) (now (routes .entry)))
+        r (tables (now (blocks .exit)) (now (runs .exit)) (now (pairs .exit)) (now (routes .exit))) ⌝ }
+{
+    yard::start(blocks, runs, pairs, routes)
+}
+
+#[no_mangle]
+pub extern "C" fn yard_add_block(
+    blocks: &mut [u16],
+    runs: &mut [u16],
+    pairs: &mut [u8],
+    routes: &mut [u32],
+    number: u32,
+    corners: &[u16],
+) -> u32
+    ensures { λ r. ⌜ Called (addBlock number (now (corners .entry)))
+        (tables (now (blocks .entry)) (now (runs .entry)) (now (pairs .entry)) (now (routes .entry)))
+        r (tables (now (blocks .exit)) (now (runs .exit)) (now (pairs .exit)) (now (routes .exit))) ⌝ }
+{
+    yard::add_block(blocks, runs, pairs, routes, number, corners)
+}
+
+#[no_mangle]
+pub extern "C" fn yard_remove_block(
+    blocks: &mut [u16],
+    runs: &mut [u16],
+    pairs: &mut [u8],
+    routes: &mut [u32],
+    number: u32,
+) -> u32
+    ensures { λ r. ⌜ Called (removeBlock number)
+        (tables (now (blocks .entry)) (now (runs .entry)) (now (pairs .entry)) (now (routes .entry)))
+        r (tables (now (blocks .exit)) (now (runs .exit)) (now (pairs .exit)) (now (routes .exit))) ⌝ }
+{
+    yard::remove_block(blocks, runs, pairs, routes, number)
+}
+
+#[no_mangle]
+pub extern "C" fn yard_move_block(
+    blocks: &mut [u16],
+    runs: &mut [u16],
+    pairs: &mut [u8],
+    routes: &mut [u32],
+    number: u32,
+    east: i16,
+    north: i16,
+) -> u32
+    ensures { λ r. ⌜ Called (moveBlock number east north)
+        (tables (now (blocks .entry)) (now (runs .entry)) (now (pairs .entry)) (now (routes .entry)))
+        r (tables (now (blocks .exit)) (now (runs .exit)) (now (pairs .exit)) (now (routes .exit))) ⌝ }
+{
+    yard::move_block(blocks, runs, pairs, routes, number, east, north)
+}
+
+#[no_mangle]
+pub extern "C" fn yard_add_run(
+    blocks: &mut [u16],
+    runs: &mut [u16],
+    pairs: &mut [u8],
+    routes: &mut [u32],
+    number: u32,
+    first_east: u16,
+    first_north: u16,
+    second_east: u16,
+    second_north: u16,
+) -> u32
+    ensures { λ r. ⌜ Called (addRun number (point «first_east» «first_north») (point «second_east» «second_north»))
+        (tables (now (blocks .entry)) (now (runs .entry)) (now (pairs .entry)) (now (routes .entry)))
+        r (tables (now (blocks .exit)) (now (runs .exit)) (now (pairs .exit)) (now (routes .exit))) ⌝ }
+{
+    let first = Place {
+        east: first_east,
+        north: first_north,
+    };
+    let second = Place {
+        east: second_east,
+        north: second_north,
+    };
+    yard::add_run(blocks, runs, pairs, routes, number, first, second)
+}
+
+#[no_mangle]
+pub extern "C" fn yard_remove_run(
+    blocks: &mut [u16],
+    runs: &mut [u16],
+    pairs: &mut [u8],
+    routes: &mut [u32],
+    number: u32,
+) -> u32
+    ensures { λ r. ⌜ Called (removeRun number)
+        (tables (now (blocks .entry)) (now (runs .entry)) (now (pairs .entry)) (now (routes .entry)))
+        r (tables (now (blocks .exit)) (now (runs .exit)) (now (pairs .exit)) (now (routes .exit))) ⌝ }
+{
+    yard::remove_run(blocks, runs, pairs, routes, number)
+}
+
+#[no_mangle]
+pub extern "C" fn yard_move_run(
+    blocks: &mut [u16],
+    runs: &mut [u16],
+    pairs: &mut [u8],
+    routes: &mut [u32],
+    number: u32,
+    first_east: u16,
+    first_north: u16,
+    second_east: u16,
+    second_north: u16,
+) -> u32
+    ensures { λ r. ⌜ Called (moveRun number (point «first_east» «first_north») (point «second_east» «second_north»))
+        (tables (now (blocks .entry)) (now (runs .entry)) (now (pairs .entry)) (now (routes .entry)))
+        r (tables (now (blocks .exit)) (now (runs .exit)) (now (pairs .exit)) (now (routes .exit))) ⌝ }
+{
+    let first = Place {
+        east: first_east,
+        north: first_north,
+    };
+    let second = Place {
+        east: second_east,
+        north: second_north,
+    };
+    yard::move_run(blocks, runs, pairs, routes, number, first, second)
+}
+
+#[no_mangle]
+pub extern "C" fn yard_check(blocks: &[u16], runs: &[u16], pairs: &[u8], routes: &[u32]) -> u32
+    ensures { λ r. ⌜ Checked (tables (now (blocks .entry)) (now (runs .entry)) (now (pairs .entry)) (now (routes .entry))) r ⌝ }
+{
+    yard::check(blocks, runs, pairs, routes)
+}

@@ -1,0 +1,106 @@
+/*
+ * The yard planner: blocks to keep clear of, and shortest conduit runs around them.
+ *
+ * The caller owns four tables and lends them to every call, each as a pointer and a length in elements. The lengths
+ * must be exactly those below. The tables must not overlap, and must be aligned for their element type. Together they
+ * take 48,648 bytes. A call keeps nothing: there is no hidden state, no heap and no I/O. Calls on different tables may
+ * run at the same time; calls on the same tables must not, except yard_check beside yard_check. A call uses less than
+ * 8 KiB of stack.
+ *
+ * East is the first coordinate, north the second, from 0 to 32,767; lengths are in centimetres.
+ *
+ * A refused call (any answer but 0) changes nothing in any table.
+ */
+#ifndef YARD_H
+#define YARD_H
+
+#include <stddef.h>
+#include <stdint.h>
+
+#ifdef __cplusplus
+extern "C" {
+#endif
+
+/*
+ * blocks: 24 records of 17 words. Word 0 is the count of corners (0 = absent, else 3 to 8), then eight corners, east
+ * then north, anticlockwise; unused words are 0.
+ */
+#define YARD_BLOCKS_LEN 408
+
+/* runs: 24 records of 5 words. Word 0 is 1, or 0 if absent; then the first end and the second end, east then north. */
+#define YARD_RUNS_LEN 120
+
+/*
+ * pairs: one byte for each two marks. Corner k of block n is mark 8 * n + k; the ends of run m are marks 192 + 2 * m
+ * and 193 + 2 * m. The byte of marks i < j is at j * (j - 1) / 2 + i: 255 if either mark is absent, 254 if the
+ * straight between them is clear, else the lowest number of a block that hides it.
+ */
+#define YARD_PAIRS_LEN 28680
+
+/*
+ * routes: 24 records of 197 words. Word 0 is the state (YARD_ROUTE_..), word 1 the length, word 2 the count of marks,
+ * then the marks from the first end to the second; unused words are 0.
+ */
+#define YARD_ROUTES_LEN 4728
+
+#define YARD_BLOCK_WORDS 17
+#define YARD_RUN_WORDS 5
+#define YARD_ROUTE_WORDS 197
+
+#define YARD_ROUTE_ABSENT 0
+#define YARD_ROUTE_FOUND 1
+#define YARD_ROUTE_NO_WAY 2
+
+/* Answers. The questions are asked in this order, and the first that fails is the answer. */
+#define YARD_DONE 0             /* done; of yard_check: pairs and routes are right */
+#define YARD_WRONG_LENGTH 1     /* a table is not exactly as long as stated */
+#define YARD_WRONG_RECORD 2     /* a stored block or run is not one that these calls write */
+#define YARD_WRONG_NUMBER 3     /* the number is not below 24 */
+#define YARD_NOT_FREE 4         /* adding: the number is taken */
+#define YARD_NOT_TAKEN 5        /* removing or moving: the number is free */
+#define YARD_WRONG_COUNT 6      /* adding a block: not 3 to 8 whole corners */
+#define YARD_WRONG_COORDINATE 7 /* a new or moved coordinate is not from 0 to 32,767 */
+#define YARD_NOT_CONVEX 8       /* adding a block: some corner is not strictly left of every side that it is not on */
+#define YARD_NOT_DRAWN 11       /* yard_check: a byte of pairs or routes is not what blocks and runs require */
+
+/* An empty yard, whatever the tables held. Answers 0 or 1. */
+uint32_t yard_start(uint16_t *blocks, size_t blocks_len, uint16_t *runs, size_t runs_len, uint8_t *pairs,
+                    size_t pairs_len, uint32_t *routes, size_t routes_len);
+
+/* corners: east then north of each corner, anticlockwise; corners_len counts words, 6 to 16. Answers 0 to 4, 6 to 8. */
+uint32_t yard_add_block(uint16_t *blocks, size_t blocks_len, uint16_t *runs, size_t runs_len, uint8_t *pairs,
+                        size_t pairs_len, uint32_t *routes, size_t routes_len, uint32_t number,
+                        const uint16_t *corners, size_t corners_len);
+
+/* Answers 0 to 3 and 5. */
+uint32_t yard_remove_block(uint16_t *blocks, size_t blocks_len, uint16_t *runs, size_t runs_len, uint8_t *pairs,
+                           size_t pairs_len, uint32_t *routes, size_t routes_len, uint32_t number);
+
+/* Move every corner by a displacement. Answers 0 to 3, 5 and 7. */
+uint32_t yard_move_block(uint16_t *blocks, size_t blocks_len, uint16_t *runs, size_t runs_len, uint8_t *pairs,
+                         size_t pairs_len, uint32_t *routes, size_t routes_len, uint32_t number, int16_t east,
+                         int16_t north);
+
+/* Answers 0 to 4 and 7. */
+uint32_t yard_add_run(uint16_t *blocks, size_t blocks_len, uint16_t *runs, size_t runs_len, uint8_t *pairs,
+                      size_t pairs_len, uint32_t *routes, size_t routes_len, uint32_t number, uint16_t first_east,
+                      uint16_t first_north, uint16_t second_east, uint16_t second_north);
+
+/* Answers 0 to 3 and 5. */
+uint32_t yard_remove_run(uint16_t *blocks, size_t blocks_len, uint16_t *runs, size_t runs_len, uint8_t *pairs,
+                         size_t pairs_len, uint32_t *routes, size_t routes_len, uint32_t number);
+
+/* Both ends new. Answers 0 to 3, 5 and 7. */
+uint32_t yard_move_run(uint16_t *blocks, size_t blocks_len, uint16_t *runs, size_t runs_len, uint8_t *pairs,
+                       size_t pairs_len, uint32_t *routes, size_t routes_len, uint32_t number, uint16_t first_east,
+                       uint16_t first_north, uint16_t second_east, uint16_t second_north);
+
+/* Are pairs and routes what blocks and runs require? Changes nothing. Answers 0, 1, 2 or 11. */
+uint32_t yard_check(const uint16_t *blocks, size_t blocks_len, const uint16_t *runs, size_t runs_len,
+                    const uint8_t *pairs, size_t pairs_len, const uint32_t *routes, size_t routes_len);
+
+#ifdef __cplusplus
+}
+#endif
+
+#endif

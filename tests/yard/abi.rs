@@ -1,0 +1,35 @@
+//! The calls of the static library `yard_abi`: blocks, runs, pairs, routes, each a pointer and a length, then the arguments.
+
+#[link(name = "yard_abi", kind = "static")]
+extern "C" {
+    pub fn yard_start(
+        b: *mut u16, bl: usize, r: *mut u16, rl: usize, p: *mut u8, pl: usize, w: *mut u32, wl: usize,
+    ) -> u32;
+    pub fn yard_add_block(
+        b: *mut u16, bl: usize, r: *mut u16, rl: usize, p: *mut u8, pl: usize, w: *mut u32, wl: usize,
+        number: u32, corners: *const u16, corners_len: usize,
+    ) -> u32;
+    pub fn yard_remove_block(
+        b: *mut u16, bl: usize, r: *mut u16, rl: usize, p: *mut u8, pl: usize, w: *mut u32, wl: usize,
+        number: u32,
+    ) -> u32;
+    pub fn yard_move_block(
+        b: *mut u16, bl: usize, r: *mut u16, rl: usize, p: *mut u8, pl: usize, w: *mut u32, wl: usize,
+        number: u32, east: i16, north: i16,
+    ) -> u32;
+    pub fn yard_add_run(
+        b: *mut u16, bl: usize, r: *mut u16, rl: usize, p: *mut u8, pl: usize, w: *mut u32, wl: usize,
+        number: u32, e0: u16, n0: u16, e1: u16, n1: u16,
+    ) -> u32;
+    pub fn yard_remove_run(
+        b: *mut u16, bl: usize, r: *mut u16, rl: usize, p: *mut u8, pl: usize, w: *mut u32, wl: usize,
+        number: u32,
+    ) -> u32;
+    pub fn yard_move_run(
+        b: *mut u16, bl: usize, r: *mut u16, rl: usize, p: *mut u8, pl: usize, w: *mut u32, wl: usize,
+        number: u32, e0: u16, n0: u16, e1: u16, n1: u16,
+    ) -> u32;
+    pub fn yard_check(
+        b: *const u16, bl: usize, r: *const u16, rl: usize, p: *const u8, pl: usize, w: *const u32, wl: usize,
+    ) -> u32;
+}

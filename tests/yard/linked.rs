@@ -1,0 +1,73 @@
+//! The proved planner, from the static library `yard_abi`.
+
+use crate::abi::*;
+use crate::tables::{Edit, Planner, Tables};
+
+/// A table between two margins, so that a store outside it is noticed.
+struct Fenced<T> {
+    all: Vec<T>,
+    len: usize,
+    fence: T,
+}
+
+const MARGIN: usize = 64;
+
+impl<T: Copy + PartialEq> Fenced<T> {
+    fn new(table: &[T], fence: T) -> Fenced<T> {
+        let mut all = vec![fence; MARGIN];
+        all.extend_from_slice(table);
+        all.resize(table.len() + 2 * MARGIN, fence);
+        Fenced { all, len: table.len(), fence }
+    }
+
+    fn ptr(&mut self) -> *mut T {
+        self.all[MARGIN..].as_mut_ptr()
+    }
+
+    fn take(&self, table: &mut [T], name: &str) {
+        let end = MARGIN + self.len;
+        let whole = self.all[..MARGIN].iter().chain(&self.all[end..]).all(|&v| v == self.fence);
+        assert!(whole, "a store outside {name}");
+        table.copy_from_slice(&self.all[MARGIN..end]);
+    }
+}
+
+pub struct Linked;
+
+macro_rules! fenced_call {
+    ($t:expr, $f:ident $(, $arg:expr)*) => {{
+        let (mut b, mut r) = (Fenced::new(&$t.blocks, 0x5A5A), Fenced::new(&$t.runs, 0x5A5A));
+        let (mut p, mut w) = (Fenced::new(&$t.pairs, 0x5A), Fenced::new(&$t.routes, 0x5A5A_5A5A));
+        // The four tables are apart, live for the call, and as long as stated.
+        let answer = unsafe { $f(b.ptr(), b.len, r.ptr(), r.len, p.ptr(), p.len, w.ptr(), w.len $(, $arg)*) };
+        b.take(&mut $t.blocks, "blocks");
+        r.take(&mut $t.runs, "runs");
+        p.take(&mut $t.pairs, "pairs");
+        w.take(&mut $t.routes, "routes");
+        answer
+    }};
+}
+
+impl Planner for Linked {
+    fn start(&self, t: &mut Tables) -> u32 {
+        fenced_call!(t, yard_start)
+    }
+
+    fn edit(&self, t: &mut Tables, e: &Edit) -> u32 {
+        match e {
+            Edit::AddBlock(n, corners) => fenced_call!(t, yard_add_block, *n, corners.as_ptr(), corners.len()),
+            Edit::RemoveBlock(n) => fenced_call!(t, yard_remove_block, *n),
+            Edit::MoveBlock(n, east, north) => fenced_call!(t, yard_move_block, *n, *east, *north),
+            Edit::AddRun(m, e) => fenced_call!(t, yard_add_run, *m, e[0], e[1], e[2], e[3]),
+            Edit::RemoveRun(m) => fenced_call!(t, yard_remove_run, *m),
+            Edit::MoveRun(m, e) => fenced_call!(t, yard_move_run, *m, e[0], e[1], e[2], e[3]),
+        }
+    }
+
+    fn check(&self, t: &Tables) -> u32 {
+        let mut copy = t.clone();
+        let answer = fenced_call!(copy, yard_check);
+        assert!(copy == *t, "the check changed a table");
+        answer
+    }
+}
