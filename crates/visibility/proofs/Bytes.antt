@@ -10,7 +10,7 @@ use lib.Dec.{eqb}
 use borrow.Author.Tests.{eqb-true, eqb-false}
 use Rattle.geometry.specs.Words.{Point, Near}
 use Rattle.geometry.specs.Obstruction.{Hidden}
-use Rattle.geometry.specs.Search.{Lowest, LowestIs}
+use Rattle.geometry.specs.Search.{Lowest, LowestIs, hiderByte}
 use Rattle.geometry.specs.declared.Hider.{Hider}
 use Rattle.geometry.specs.declared.Hider.the-variants.{At, Nothing}
 use Rattle.tables.specs.Tables.{Records, Fit, present, placeOf, OnBlock}
@@ -18,21 +18,23 @@ use Rattle.tables.proofs.Marks.{place-near}
 use Rattle.visibility.specs.Visibility.{Hides, bothPresent, PairIs, absent, clear, hidden, BlockPair}
 use Rattle.visibility.specs.Redrawing.{StraightIs, unhidden, lowest, HidesAnswer, MarkIs, FreshAnswer}
 
--- what the search's two answers say of the byte of a straight, and of one block
+-- the byte that the search's answer stands for
+pub number-small : (h : Hider) (n : ℕ) → hiderByte h ≤ 254 → h ≡ At n → n ≤ 254
+number-small h n l e = subst (λ (x : Hider). hiderByte x ≤ 254) e l
+
+pub straight-small : (blocks : List ℕ) (a b : Point) (h : Hider) → Lowest blocks 0 24 a b h → hiderByte h ≤ 254
+straight-small blocks a b (At n) l = omega (arith, l .before)
+straight-small blocks a b Nothing l = omega arith
+
+straight-of : (blocks : List ℕ) (a b : Point) (h : Hider) → Lowest blocks 0 24 a b h → StraightIs blocks a b (hiderByte h)
+straight-of blocks a b (At n) l = lowest (l .before) (l .hides) (λ k h g. l .lowest k (omega arith) h g)
+straight-of blocks a b Nothing l = unhidden (λ k h g. l k (omega arith) h g) refl
+
+pub straight-is : (blocks : List ℕ) (a b : Point) (h : Hider) (byte : ℕ) → Lowest blocks 0 24 a b h → byte ≡ hiderByte h → StraightIs blocks a b byte
+straight-is blocks a b h byte l e = rw e (straight-of blocks a b h l)
+
+-- what the search's two answers say of one block
 module _ (blocks : List ℕ) (a b : Point) (h : Hider) where
-  pub found-below : (n : ℕ) → Lowest blocks 0 24 a b h → h ≡ At n → n < 24
-  found-below n l e = let m : LowestIs blocks 0 24 a b n = subst (λ (x : Hider). Lowest blocks 0 24 a b x) e l in m .before
-
-  pub straight-hidden : (n : ℕ) → Lowest blocks 0 24 a b h → h ≡ At n → StraightIs blocks a b n
-  straight-hidden n l e =
-      let m : LowestIs blocks 0 24 a b n = subst (λ (x : Hider). Lowest blocks 0 24 a b x) e l in
-      lowest (m .before) (m .hides) (λ k h g. m .lowest k (omega arith) h g)
-
-  pub straight-clear : Lowest blocks 0 24 a b h → h ≡ Nothing → StraightIs blocks a b 254
-  straight-clear l e =
-      let m : ((k : ℕ) → 0 ≤ k → k < 24 → Hidden blocks k a b → ⊥) = subst (λ (x : Hider). Lowest blocks 0 24 a b x) e l in
-      unhidden (λ k h g. m k (omega arith) h g) refl
-
   pub alone-hides : (n k : ℕ) → Lowest blocks n (n + 1) a b h → h ≡ At k → HidesAnswer blocks n a b true
   alone-hides n k l e =
       let m : LowestIs blocks n (n + 1) a b k = subst (λ (x : Hider). Lowest blocks n (n + 1) a b x) e l in

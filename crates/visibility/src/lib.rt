@@ -3,6 +3,7 @@ ghost use mathlib.Core.Path.{_≡_};
 ghost use Prim.Native.Nat.{ℕ, _+_, _*_, _<_, _≤_};
 ghost use lib.ListN.{length};
 ghost use Rattle.geometry.specs.Words.{pointOf, Bounded, Near};
+ghost use Rattle.geometry.specs.Search.{hiderByte};
 ghost use Rattle.tables.specs.Tables.{stored, Fit};
 ghost use Rattle.visibility.specs.Visibility.{PairIs, BlockPair, BlockRedrawn, RunRedrawn};
 ghost use Rattle.visibility.specs.Redrawing.{StraightIs, HidesAnswer, MarkIs, FreshAnswer, RowRedrawn, InRow, InColumn, Renewed, RowAnswer, PairsAnswer};
@@ -13,15 +14,23 @@ use tables::is_present;
 use tables::pair_index;
 use tables::place_of;
 
+// The pair byte that an answer of the search stands for.
+fn byte_of(h: Hider) -> u8
+    requires { ⌜ hiderByte h ≤ 254 ⌝ }
+    ensures { λ r. ⌜ r ≡ hiderByte h ⌝ }
+{
+    match h {
+        Hider::At(n) => n as u8,
+        Hider::Nothing => 254,
+    }
+}
+
 // The byte of a straight between present marks at a and b.
 fn straight_byte(blocks: &[u16], a: Place, b: Place) -> u8
     requires { ⌜ (Bounded (now blocks)) × (Near (pointOf a)) × (Near (pointOf b)) ⌝ }
     ensures { λ r. ⌜ StraightIs (now (blocks .entry)) (pointOf a) (pointOf b) r ⌝ }
 {
-    match lowest_hider(blocks, 0, 24, a, b) {
-        Hider::At(n) => n as u8,
-        Hider::Nothing => 254,
-    }
+    byte_of(lowest_hider(blocks, 0, 24, a, b))
 }
 
 // Whether block n hides the straight from a to b.

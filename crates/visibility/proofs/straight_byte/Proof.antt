@@ -1,28 +1,20 @@
-use Prim.Native.Nat.{_<_}
-use native.Mathlib.Omega.{arith}
-use Rattle.visibility.proofs.Bytes.{found-below, straight-hidden, straight-clear}
+use Rattle.visibility.proofs.Bytes.{straight-small, straight-is}
 use borrow.Author.Needs.{needs}
 use Rattle.visibility.proofs.straight_byte.Statement.{statement}
 use Rattle.visibility.proofs.straight_byte.Tie as tie
+use Rattle.visibility.proofs.straight_byte.Reads as reads
+use Rattle.visibility.proofs.straight_byte.Lts as lts
+use Rattle.geometry.proofs.lowest_hider.Reads as lowest-hider-reads
+use Rattle.visibility.proofs.byte_of.Reads as byte-of-reads
 
 lowest-hider-requires : tie.Need-lowest-hider-requires
 lowest-hider-requires c κs = search needs
 
-enum-known-n : tie.Need-enum-known-n
-enum-known-n c = search needs
-
-cast-result : tie.Need-cast-result
-cast-result c = let h : c .before .n .given .0 .0 < 24 = search found-below in omega arith
-
-enum-told : tie.Need-enum-told
-enum-told c = search needs
+byte-of-requires : tie.Need-byte-of-requires
+byte-of-requires c κs = search straight-small
 
 returns : tie.Need-returns
-returns c = search straight-hidden
-
-returns-2 : tie.Need-returns-2
-returns-2 c = search straight-clear
+returns c = search straight-is
 
 pub straight-byte-spec : {M : Type 1} → statement M
-straight-byte-spec =
-    tie.close (tie.spec lowest-hider-requires enum-known-n cast-result enum-told returns returns-2)
+straight-byte-spec = tie.close (tie.spec lowest-hider-requires byte-of-requires returns)
