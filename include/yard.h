@@ -61,6 +61,8 @@ extern "C" {
 #define YARD_WRONG_COUNT 6      /* adding a block: not 3 to 8 whole corners */
 #define YARD_WRONG_COORDINATE 7 /* a new or moved coordinate is not from 0 to 32,767 */
 #define YARD_NOT_CONVEX 8       /* adding a block: some corner is not strictly left of every side that it is not on */
+#define YARD_NOT_A_FILE 9       /* yard_read: not 5 to 8,192 bytes, the letters YRD and version 1 */
+#define YARD_NOT_A_RECORD 10    /* yard_read: the position is outside the file, the kind unknown or the record cut off */
 #define YARD_NOT_DRAWN 11       /* yard_check: a byte of pairs or routes is not what blocks and runs require */
 
 /* An empty yard, whatever the tables held. Answers 0 or 1. */
@@ -98,6 +100,19 @@ uint32_t yard_move_run(uint16_t *blocks, size_t blocks_len, uint16_t *runs, size
 /* Are pairs and routes what blocks and runs require? Changes nothing. Answers 0, 1, 2 or 11. */
 uint32_t yard_check(const uint16_t *blocks, size_t blocks_len, const uint16_t *runs, size_t runs_len,
                     const uint8_t *pairs, size_t pairs_len, const uint32_t *routes, size_t routes_len);
+
+/*
+ * A yard file is the letters YRD, a 16-bit version (1), low byte first, then records from position 5 on: a kind byte, a
+ * number byte, and fields of 16 bits, low byte first. Kinds: 1 add block (a count byte c, then c corners), 2 remove
+ * block, 3 move block (two displacements, two's complement), 4 add run and 6 move run (four coordinates), 5 remove run.
+ *
+ * yard_read looks at the record at a position. item has room for exactly YARD_ITEM_LEN words; answer 0 fills it with
+ * the record's kind, its number, the position of its fields (of kind 1: of the count byte) and the position of the next
+ * record. At the end of the file the kind is 0. Answers 0, 9 or 10, or 1 if item has another length; item is then kept.
+ */
+#define YARD_ITEM_LEN 4
+
+uint32_t yard_read(const uint8_t *file, size_t file_len, size_t at, uint64_t *item, size_t item_len);
 
 #ifdef __cplusplus
 }

@@ -32,4 +32,5 @@ extern "C" {
     pub fn yard_check(
         b: *const u16, bl: usize, r: *const u16, rl: usize, p: *const u8, pl: usize, w: *const u32, wl: usize,
     ) -> u32;
+    pub fn yard_read(file: *const u8, file_len: usize, at: usize, item: *mut u64, item_len: usize) -> u32;
 }

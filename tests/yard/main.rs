@@ -7,6 +7,8 @@ mod linked;
 #[cfg(plain)]
 mod plain_planner;
 mod random;
+#[cfg(not(plain))]
+mod reading;
 mod reference;
 mod tables;
 mod trials;
@@ -469,6 +471,11 @@ fn main() {
     report.end_group("wrong records");
     checks(&p, &mut report);
     report.end_group("check");
+    #[cfg(not(plain))]
+    {
+        reading::reading(&mut report);
+        report.end_group("reading");
+    }
     println!("tests/yard: {} passed, {} failed", report.passed, report.failed);
     std::process::exit(if report.failed == 0 { 0 } else { 1 });
 }

@@ -27,7 +27,7 @@ obstructed ps a b =
     allBelow (length ps) (λ k. open-side (sideTurn ps a k) (sideTurn ps b k))
     && allBelow (length ps) (λ i. allBelow (length ps) (λ j. open-pair (sideTurn ps a i) (sideTurn ps b i) (sideTurn ps a j) (sideTurn ps b j)))
 
-holds : (x y : ℤ) → ltZ x y ≡ true → x <ℤ y
+pub holds : (x y : ℤ) → ltZ x y ≡ true → x <ℤ y
 holds x y e = ltZ-yes (subst T (sym e) tt)
 
 fails : (x y : ℤ) → ltZ x y ≡ false → y ≤ℤ x
@@ -40,7 +40,7 @@ proved x y h = go (ltZ x y) refl
     go true e = e
     go false e = clashℤ h (fails x y e)
 
-or-else : (a b : Bool) → a || b ≡ true → (a ≡ true → ⊥) → b ≡ true
+pub or-else : (a b : Bool) → a || b ≡ true → (a ≡ true → ⊥) → b ≡ true
 or-else true b h f = absurd (f refl)
 or-else false b h f = h
 

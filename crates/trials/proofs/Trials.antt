@@ -2,18 +2,22 @@
 use mathlib.Core.Path.{_≡_, refl}
 use mathlib.Core.List.{List, [], _∷_}
 use mathlib.Core.Bool.{false}
+use Prim.Native.Nat.{ℕ}
 use lib.Dec.{lit<, lit≤}
+use lib.ListN.{replicate}
 use Rattle.geometry.specs.Words.{Point, point}
 use Rattle.geometry.specs.Obstruction.{turn, sideTurn, Obstructs}
 use Rattle.geometry.specs.Convexity.{allBelow, sideTest, convex}
 use Rattle.geometry.specs.Length.{lengthOf, rootUp}
 use Rattle.geometry.proofs.Roots.{root-at}
+use Rattle.visibility.specs.Visibility.{PairIs}
+use Rattle.paths.specs.Path.{total}
+use Rattle.routing.specs.Routes.{cost, RouteIs}
+use Rattle.yard.specs.Drawing.{ByPlaces}
 use Rattle.trials.proofs.Sight.{obstructed, seen-hidden, seen-clear}
+use Rattle.trials.proofs.Yards.{S, yard, byte-hidden, byte-clear, route-round, route-length, ends-inside, starts-inside}
 
--- square S, and the block beside it
-abbrev S : List Point
-S = point 10 10 ∷ point 20 10 ∷ point 20 20 ∷ point 10 20 ∷ []
-
+-- square S is (10,10) (20,10) (20,20) (10,20): Yards.antt; this is the block beside it
 abbrev beside : List Point
 beside = point 20 10 ∷ point 30 10 ∷ point 30 20 ∷ point 20 20 ∷ []
 
@@ -73,3 +77,39 @@ length-three-four = root-at 25 4 (lit< tt) (lit≤ tt)
 length-across : lengthOf (point 0 0) (point 32767 32767) ≡ 46340
 unfolding lengthOf
 length-across = root-at 2147352578 46339 (lit< tt) (lit≤ tt)
+
+-- in the yard that holds S as block 0 and run 0 from p to q: the words of the run's route, and the byte of its two ends
+abbrev Route : Point → Point → List ℕ → Type 0
+Route p q ws = RouteIs (yard p q) (ByPlaces (yard p q)) 0 ws
+
+abbrev Byte : Point → Point → ℕ → Type 0
+Byte p q b = PairIs (yard p q) 192 193 b
+
+round-the-square : Route (point 0 15) (point 30 15) (1 ∷ 34 ∷ 4 ∷ 192 ∷ 0 ∷ 1 ∷ 193 ∷ replicate 190 0)
+round-the-square = route-round
+
+length-round : total (cost (yard (point 0 15) (point 30 15))) (192 ∷ 0 ∷ 1 ∷ 193 ∷ []) ≡ 34
+length-round = route-length
+
+-- no way, wherever the other end is
+end-inside : (p : Point) → Route p (point 15 15) (2 ∷ replicate 196 0) × Route (point 15 15) p (2 ∷ replicate 196 0)
+end-inside p = (ends-inside p, starts-inside p)
+
+-- "hidden by 0" and "clear" as bytes
+byte-along : Byte (point 0 10) (point 30 10) 254
+byte-along = byte-clear (point 0 10) (point 30 10) along-a-side
+
+byte-just-inside : Byte (point 0 11) (point 30 11) 0
+byte-just-inside = byte-hidden (point 0 11) (point 30 11) just-inside
+
+byte-corners : Byte (point 10 10) (point 20 20) 0
+byte-corners = byte-hidden (point 10 10) (point 20 20) corner-to-corner
+
+byte-touching : Byte (point 0 20) (point 20 0) 254
+byte-touching = byte-clear (point 0 20) (point 20 0) touches-a-corner
+
+byte-between : Byte (point 0 21) (point 21 0) 0
+byte-between = byte-hidden (point 0 21) (point 21 0) between-whole-points
+
+byte-place : Byte (point 15 15) (point 15 15) 0 × Byte (point 10 15) (point 10 15) 254
+byte-place = (byte-hidden (point 15 15) (point 15 15) place-inside, byte-clear (point 10 15) (point 10 15) place-on-a-side)

@@ -1,9 +1,14 @@
 // The calls of the yard for C and Rust. Each has the contract of the call under it; a slice is passed as a pointer and a length in elements.
+ghost use mathlib.Core.Path.{_≡_};
+ghost use mathlib.Core.List.{[], _∷_};
+ghost use lib.ListN.{length};
 ghost use Rattle.geometry.specs.Words.{point};
 ghost use Rattle.tables.specs.Tables.{tables};
 ghost use Rattle.yard.specs.Book.{addBlock, removeBlock, moveBlock, addRun, removeRun, moveRun};
 ghost use Rattle.yard.specs.Edits.{Started, Called, Checked};
+ghost use Rattle.yard_abi.specs.Reading.{ReadInto};
 use geometry::Place;
+use yardfile::Reading;
 
 #[no_mangle]
 pub extern "C" fn yard_start(
@@ -140,4 +145,42 @@ pub extern "C" fn yard_check(blocks: &[u16], runs: &[u16], pairs: &[u8], routes:
     ensures { λ r. ⌜ Checked (tables (now (blocks .entry)) (now (runs .entry)) (now (pairs .entry)) (now (routes .entry))) r ⌝ }
 {
     yard::check(blocks, runs, pairs, routes)
+}
+
+// Four words into a lent list.
+fn put_item(item: &mut [u64], kind: u64, number: u64, fields: u64, next: u64)
+    requires { ⌜ length (now item) ≡ 4 ⌝ }
+    ensures { λ r. ⌜ now (item .exit) ≡ kind ∷ number ∷ fields ∷ next ∷ [] ⌝ }
+{
+    item[0] = kind;
+    item[1] = number;
+    item[2] = fields;
+    item[3] = next;
+}
+
+// The record of a yard file at a position, as four words: its kind, its number, where its fields start, and the position after it.
+#[no_mangle]
+pub extern "C" fn yard_read(file: &[u8], at: usize, item: &mut [u64]) -> u32
+    ensures { λ r. ⌜ ReadInto (now (file .entry)) at (now (item .entry)) r (now (item .exit)) ⌝ }
+{
+    if item.len() != 4 {
+        return 1;
+    }
+    match yardfile::read_from(file, at) {
+        Reading::Found(found) => {
+            put_item(
+                item,
+                found.kind as u64,
+                found.number as u64,
+                found.fields as u64,
+                found.next as u64,
+            );
+            0
+        }
+        Reading::End => {
+            put_item(item, 0, 0, 0, at as u64);
+            0
+        }
+        Reading::Refused(number) => number,
+    }
 }

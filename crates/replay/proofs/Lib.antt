@@ -1,0 +1,4 @@
+pub mod Fields
+pub mod Taken
+pub mod Going
+pub mod Drawn

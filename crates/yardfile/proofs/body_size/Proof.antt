@@ -1,0 +1,53 @@
+use Rattle.yardfile.proofs.Cases.{body-block, body-move, body-ends, body-new-ends, body-none}
+use borrow.Author.Needs.{needs}
+use Rattle.yardfile.proofs.body_size.Statement.{statement}
+use Rattle.yardfile.proofs.body_size.Tie as tie
+
+shared-slice-read-kind : tie.Need-shared-slice-read-kind
+shared-slice-read-kind c = search needs
+
+add-byte-at : tie.Need-add-byte-at
+add-byte-at c = search needs
+
+byte-at-requires : tie.Need-byte-at-requires
+byte-at-requires c κs = search needs
+
+cast-result : tie.Need-cast-result
+cast-result c = search needs
+
+mul-result : tie.Need-mul-result
+mul-result c = search needs
+
+add-result : tie.Need-add-result
+add-result c = search needs
+
+returns : tie.Need-returns
+returns c = (search body-block, search needs)
+
+returns-2 : tie.Need-returns-2
+returns-2 c = search body-move
+
+returns-3 : tie.Need-returns-3
+returns-3 c = search body-ends
+
+returns-4 : tie.Need-returns-4
+returns-4 c = search body-new-ends
+
+returns-5 : tie.Need-returns-5
+returns-5 c = body-none _ _ (c .before .before .before .if1 .left) (c .before .before .if2 .left) (c .before .if3 .left) (c .if4 .left)
+
+pub body-size-spec : {M : Type 1} → statement M
+body-size-spec =
+    tie.close
+    (tie.spec
+    shared-slice-read-kind
+    add-byte-at
+    byte-at-requires
+    cast-result
+    mul-result
+    add-result
+    returns
+    returns-2
+    returns-3
+    returns-4
+    returns-5)
