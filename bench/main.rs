@@ -1,9 +1,10 @@
-//! The benchmark: the drag yard and the crowded yard, the proved planner beside a plain one of the same algorithm and
-//! one that draws everything from nothing.
+//! The benchmark: a drag step of the proved planner beside a plain one of the same algorithm, one that draws
+//! everything from nothing, and Graphviz's, over several yards.
 
 #[path = "../tests/yard/abi.rs"]
 #[allow(dead_code)]
 mod abi;
+mod graphviz;
 #[allow(dead_code)]
 mod plain;
 mod stack;
@@ -34,21 +35,28 @@ impl Tables {
 #[derive(Clone, Copy)]
 pub struct Grid {
     word: &'static str,
+    name: &'static str,
     blocks: usize,
     columns: usize,
     distance: u16,
     dragged: u32,
+    runs: u16,
     sum: Option<u32>,
 }
 
-pub const CROWDED: Grid = Grid { word: "crowded", blocks: 24, columns: 6, distance: 2300, dragged: 8, sum: Some(707_415) };
-const GRIDS: [Grid; 5] = [
-    Grid { word: "4", blocks: 4, columns: 2, distance: 4000, dragged: 1, sum: None },
-    Grid { word: "9", blocks: 9, columns: 3, distance: 4000, dragged: 3, sum: None },
-    Grid { word: "16", blocks: 16, columns: 4, distance: 4000, dragged: 5, sum: None },
-    Grid { word: "drag", blocks: 24, columns: 6, distance: 4000, dragged: 8, sum: Some(692_923) },
-    CROWDED,
+const FULL: Grid = Grid { word: "drag", name: "drag yard", blocks: 24, columns: 6, distance: 4000, dragged: 8, runs: 24, sum: Some(692_923) };
+/// The blocks overlap.
+pub const CROWDED: Grid = Grid { word: "crowded", name: "crowded yard", distance: 2300, sum: Some(707_415), ..FULL };
+const GRIDS: [Grid; 4] = [
+    Grid { word: "4", name: "grid", blocks: 4, columns: 2, dragged: 1, sum: None, ..FULL },
+    Grid { word: "9", name: "grid", blocks: 9, columns: 3, dragged: 3, sum: None, ..FULL },
+    Grid { word: "16", name: "grid", blocks: 16, columns: 4, dragged: 5, sum: None, ..FULL },
+    // five columns: the drag yard has six
+    Grid { word: "24", name: "grid", columns: 5, distance: 4000, dragged: 11, sum: None, ..FULL },
 ];
+const YARDS: [Grid; 6] = [GRIDS[0], GRIDS[1], GRIDS[2], GRIDS[3], FULL, CROWDED];
+/// How many runs the yards of the second table have.
+const RUN_COUNTS: [u16; 4] = [1, 8, 16, 24];
 
 const OCTAGON: [(i32, i32); 8] = [(1500, -700), (1500, 700), (700, 1500), (-700, 1500), (-1500, 700), (-1500, -700), (-700, -1500), (700, -1500)];
 
@@ -70,10 +78,15 @@ impl Grid {
         for n in 0..self.blocks {
             assert_eq!(yard.add_block(n as u32, &self.corners(n)), 0);
         }
-        for m in 0..24 {
+        for m in 0..self.runs {
             assert_eq!(yard.add_run(m as u32, Grid::ends(m)), 0);
         }
         t
+    }
+
+    /// Graphviz takes disjoint blocks only.
+    fn disjoint(&self) -> bool {
+        self.distance >= 3000 + 450
     }
 }
 
@@ -93,12 +106,16 @@ pub fn displacements(steps: i32) -> Vec<(i16, i16)> {
 
 const STEPS: i32 = 200;
 const ROUNDS: usize = 5;
+/// Graphviz's steps are long.
+const GRAPHVIZ_STEPS: i32 = 5;
+const GRAPHVIZ_ROUNDS: usize = 2;
 
 #[derive(Clone, Copy, PartialEq)]
 enum Planner {
     Ours,
     Plain,
     FromNothing,
+    Graphviz,
 }
 
 /// One step of the plain planner, under a name for callgrind.
@@ -114,6 +131,12 @@ extern "C" fn redraw_move_block(t: &mut Tables, number: u32, east: i16, north: i
     t.yard().move_block_and_redraw(number, east, north)
 }
 
+#[no_mangle]
+#[inline(never)]
+extern "C" fn graphviz_move_block(t: &mut Tables, number: u32, east: i16, north: i16) -> u32 {
+    graphviz::move_block(t, number, (east, north))
+}
+
 fn step(p: Planner, t: &mut Tables, number: u32, by: (i16, i16)) -> u32 {
     match p {
         Planner::Ours => unsafe {
@@ -125,6 +148,7 @@ fn step(p: Planner, t: &mut Tables, number: u32, by: (i16, i16)) -> u32 {
         },
         Planner::Plain => plain_move_block(t, number, by.0, by.1),
         Planner::FromNothing => redraw_move_block(t, number, by.0, by.1),
+        Planner::Graphviz => graphviz_move_block(t, number, by.0, by.1),
     }
 }
 
@@ -157,65 +181,117 @@ fn times(g: &Grid) -> [f64; 3] {
     least
 }
 
-/// The instructions of a step that callgrind counted: a line for each yard, its word, then proved, proved in routes,
-/// plain, from nothing.
-fn counted(text: &str, g: &Grid) -> [Option<f64>; 4] {
-    let line = text.lines().find(|l| l.split(' ').next() == Some(g.word)).unwrap_or("");
-    let mut numbers = line.split(' ').skip(1).map(|w| w.parse().ok());
-    [(); 4].map(|_| numbers.next().flatten())
+/// The same of Graphviz's planner; after each step its routes must be as long as ours.
+fn graphviz_time(g: &Grid) -> Option<f64> {
+    if !graphviz::INSTALLED || !g.disjoint() {
+        return None;
+    }
+    let by = displacements(GRAPHVIZ_STEPS);
+    let mut ours = g.tables();
+    for &b in &by {
+        assert_eq!(step(Planner::Ours, &mut ours, g.dragged, b), 0);
+        assert!(graphviz::agrees(&ours), "{}: Graphviz's routes have other lengths", g.word);
+    }
+    (0..GRAPHVIZ_ROUNDS).map(|_| drag(Planner::Graphviz, g, &mut g.tables(), &by)).reduce(f64::min)
 }
 
-fn print_table(counts: &str) {
-    let show = |v: Option<f64>, digits: usize| v.map_or("-".to_string(), |v| format!("{v:.digits$}"));
-    println!("One drag step. Time: microseconds, least of {ROUNDS} drags of {STEPS} steps. Instructions: thousands, by callgrind inside the call.");
-    println!("The plain planner has the same algorithm in safe Rust; \"redraw\" is the plain one drawing all pairs and routes from nothing.");
+/// The least time of our step alone.
+fn our_time(g: &Grid) -> f64 {
+    let by = displacements(STEPS);
+    (0..ROUNDS).map(|_| drag(Planner::Ours, g, &mut g.tables(), &by)).fold(f64::MAX, f64::min)
+}
+
+/// The instructions of a step that callgrind counted: lines of planner, yard, runs and number.
+struct Counts(String);
+
+impl Counts {
+    fn of(&self, planner: &str, g: &Grid) -> Option<f64> {
+        let wanted = format!("{planner} {} {} ", g.word, g.runs);
+        self.0.lines().find_map(|l| l.strip_prefix(&wanted)?.parse().ok())
+    }
+}
+
+fn show(v: Option<f64>, digits: usize) -> String {
+    v.map_or("-".to_string(), |v| format!("{v:.digits$}"))
+}
+
+fn print_table(counts: &Counts) {
+    println!("One drag step with 24 runs. Time: ours in microseconds, the others as multiples of ours in the same run (least of {ROUNDS} drags of {STEPS}");
+    println!("steps, Graphviz {GRAPHVIZ_ROUNDS} of {GRAPHVIZ_STEPS}). Instructions: thousands, by callgrind inside the call. Plain: the same algorithm in safe Rust.");
+    println!("Redraw: the plain one drawing all pairs and routes from nothing. Graphviz: Pobsopen and a Pobspath for each run, disjoint blocks only.");
     println!();
-    println!("{:<16}|{:^44}|{:^58}", "", "time", "instructions");
+    println!("{:<13} {:>6} |{:^34}|{:^54}", "", "", "time", "instructions");
     println!(
-        "{:<16}|{:>8} {:>8} {:>8} {:>8} {:>8}|{:>8} {:>8} {:>8} {:>8} {:>8} {:>8}",
-        "yard", "proved", "plain", "redraw", "pr/plain", "pr/redr", "proved", "pairs", "routes", "plain", "redraw", "pr/plain"
+        "{:<13} {:>6} |{:>8} {:>7} {:>7} {:>9}|{:>8} {:>8} {:>8} {:>8} {:>8} {:>9}",
+        "yard", "blocks", "ours", "plain", "redraw", "Graphviz", "ours", "pairs", "routes", "plain", "redraw", "Graphviz"
     );
-    for g in &GRIDS {
+    for g in &YARDS {
         let [ours, plain, nothing] = times(g);
-        let [count, routes, by_plain, by_nothing] = counted(counts, g);
+        let (count, routes) = (counts.of("proved", g), counts.of("routes", g));
         let thousands = |v: Option<f64>| show(v.map(|v| v / 1000.0), 0);
-        let both = |a: Option<f64>, b: Option<f64>, f: fn(f64, f64) -> f64| a.zip(b).map(|(a, b)| f(a, b));
-        let name = match g.word {
-            "drag" | "crowded" => format!("{} yard, 24", g.word),
-            word => format!("grid of {word}"),
-        };
         println!(
-            "{name:<16}|{ours:>8.0} {plain:>8.0} {nothing:>8.0} {:>8.2} {:>8.2}|{:>8} {:>8} {:>8} {:>8} {:>8} {:>8}",
-            ours / plain,
-            ours / nothing,
+            "{:<13} {:>6} |{ours:>8.0} {:>7.2} {:>7.2} {:>9}|{:>8} {:>8} {:>8} {:>8} {:>8} {:>9}",
+            g.name,
+            g.blocks,
+            plain / ours,
+            nothing / ours,
+            show(graphviz_time(g).map(|t| t / ours), 1),
             thousands(count),
-            thousands(both(count, routes, |a, b| a - b)),
+            thousands(count.zip(routes).map(|(a, b)| a - b)),
             thousands(routes),
-            thousands(by_plain),
-            thousands(by_nothing),
-            show(both(count, by_plain, |a, b| a / b), 2)
+            thousands(counts.of("plain", g)),
+            thousands(counts.of("redraw", g)),
+            thousands(counts.of("graphviz", g)),
         );
     }
     println!();
-    println!("After each drag the tables of all three planners are the same bytes; summed lengths 692923 (drag yard) and 707415 (crowded yard).");
+    println!("After each drag the tables of ours, plain and redraw are the same bytes; summed lengths 692923 (drag yard) and 707415 (crowded yard).");
+    if graphviz::INSTALLED {
+        println!("Graphviz's lengths, unrounded, are at most ours, and ours at most a centimetre more for each of its straights.");
+    }
+}
+
+/// How our step grows with blocks and runs.
+fn print_growth(counts: &Counts) {
+    println!("Our drag step by blocks and runs (the grids above): microseconds, and thousands of instructions.");
+    println!();
+    let heads: Vec<String> = RUN_COUNTS.iter().map(|r| format!("{:>15}", format!("{r} run{}", if *r == 1 { "" } else { "s" }))).collect();
+    println!("{:>6} |{}", "blocks", heads.concat());
+    for g in &GRIDS {
+        let cells: Vec<String> = RUN_COUNTS
+            .iter()
+            .map(|&runs| {
+                let g = Grid { runs, ..*g };
+                format!("{:>7.0} {:>7}", our_time(&g), show(counts.of("proved", &g).map(|c| c / 1000.0), 0))
+            })
+            .collect();
+        println!("{:>6} |{}", g.blocks, cells.concat());
+    }
 }
 
 fn main() {
     let args: Vec<String> = std::env::args().collect();
     let words: Vec<&str> = args[1..].iter().map(|s| s.as_str()).collect();
     match words[..] {
-        ["table", counts] => print_table(&std::fs::read_to_string(counts).unwrap_or_default()),
+        ["table", counts] => {
+            let counts = Counts(std::fs::read_to_string(counts).unwrap_or_default());
+            print_table(&counts);
+            println!();
+            print_growth(&counts);
+        }
         ["stack"] => stack::print(),
         // for callgrind: a drag of some steps, nothing printed
-        ["drag", planner, grid, steps] => {
+        ["drag", planner, grid, runs, steps] => {
             let p = match planner {
                 "proved" => Planner::Ours,
                 "plain" => Planner::Plain,
                 "redraw" => Planner::FromNothing,
+                "graphviz" => Planner::Graphviz,
                 _ => panic!("bench: no planner {planner}"),
             };
-            let g = GRIDS.iter().find(|g| g.word == grid).expect("a grid's word");
-            drag(p, g, &mut g.tables(), &displacements(steps.parse().unwrap()));
+            let g = YARDS.iter().find(|g| g.word == grid).expect("a grid's word");
+            let g = Grid { runs: runs.parse().expect("a count of runs"), ..*g };
+            drag(p, &g, &mut g.tables(), &displacements(steps.parse().expect("a count of steps")));
         }
         _ => panic!("bench: wrong words {words:?}"),
     }

@@ -1,12 +1,12 @@
 -- The corners of a record by its words, and how large a turn against its sides can be.
-use mathlib.Core.Path.{_≡_, refl, sym, ap, _∙_, subst}
-use mathlib.Core.List.{List, [], _∷_}
-use Prim.Native.Nat.{ℕ, zero, suc, _+_, _*_, _%_, _<_, _≤_}
+use mathlib.Core.Path.{_≡_, refl, sym, ap, _∙_}
+use mathlib.Core.List.{List}
+use Prim.Native.Nat.{ℕ, zero, suc, _+_, _*_, _%_, _<_}
 use native.Mathlib.Nat.{one-mul, mod-lt}
 use native.Mathlib.Omega.{arith}
 use lib.Dec.{lit≤}
 use lib.IntN.{ℤ, pos, _-ℤ_, _*ℤ_}
-use lib.ListN.{length, getD}
+use lib.ListN.{length}
 use Rattle.geometry.specs.Words.{Point, point, word, placeAt, placesFrom, corners, BoundedRecord, Near}
 use Rattle.geometry.specs.Obstruction.{cornerAt, nextCorner, turn, sideTurn}
 use Rattle.geometry.specs.Sides.{Within}

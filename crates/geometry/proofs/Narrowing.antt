@@ -1,15 +1,14 @@
 -- One side more.
-use mathlib.Core.Path.{_≡_, refl, sym, _∙_, subst}
+use mathlib.Core.Path.{_≡_, refl, _∙_, subst}
 use mathlib.Core.Bool.{Bool, true, false}
-use mathlib.Core.Logic.{_⊎_, inl, inr}
-use Prim.Native.Nat.{ℕ, suc}
+use mathlib.Core.Logic.{inl, inr}
 use lib.IntN.{ℤ, pos, _*ℤ_}
 use lib.Signed.{_<ℤ_, _≤ℤ_, ltZ, clashℤ}
 use mir.Syntax.{w64}
 use mir.Val.{SFits, toZ, ofZ}
 use mir.ValLaws.{toZ-ofZ}
 use Rattle.geometry.proofs.Signed.{lt-le}
-use Rattle.geometry.specs.Sides.{Within, Enters, Span, Small, Narrowed, Opens, Either}
+use Rattle.geometry.specs.Sides.{Within, Small, Narrowed, Opens, Either}
 use Rattle.geometry.proofs.Bound.{test-yes, test-no}
 use lib.Dec.{T}
 use Rattle.geometry.proofs.Sides.{end-low, end-up, end-if, end-only, span-both, span-low, span-low-keep, span-up, span-up-keep}

@@ -1,8 +1,8 @@
 -- Obstruction by the turns of both ends: the law that the search rests on, that it is the same both ways round, and that it is decidable.
-use mathlib.Core.Path.{_≡_, refl, sym, ap, _∙_, subst}
+use mathlib.Core.Path.{_≡_}
 use mathlib.Core.Logic.{_↔_, _⊎_, inl, inr, ⊎-elim}
 use mathlib.Core.List.{List}
-use Prim.Native.Nat.{ℕ, zero, suc, _+_, _*_, _<_, _≤_}
+use Prim.Native.Nat.{ℕ, zero, suc, _<_}
 use native.Mathlib.Decide.{decLt}
 use native.Mathlib.Nat.{one-mul}
 use native.Mathlib.Omega.{arith}
@@ -10,11 +10,11 @@ use lib.IntN.{ℤ, pos, _+ℤ_, _-ℤ_, _*ℤ_}
 use lib.Signed.{_<ℤ_, _≤ℤ_, clashℤ}
 use lib.ListN.{length}
 use Rattle.geometry.specs.Words.{Point, word, blockWords, corners}
-use Rattle.geometry.specs.Obstruction.{cornerAt, nextCorner, turn, sideTurn, along, LeftOf, InsideAt, Obstructs, Hidden}
-use Rattle.geometry.specs.Sides.{In, Inside, Enters, Span}
+use Rattle.geometry.specs.Obstruction.{cornerAt, nextCorner, turn, sideTurn, along, Obstructs, Hidden}
+use Rattle.geometry.specs.Sides.{Enters, Span}
 use Rattle.geometry.proofs.Signed.{below-or-not}
 use Rattle.geometry.proofs.Weights.{swap, enters-of, of-enters}
-use Rattle.geometry.proofs.Sides.{Best, best, Crossed, enters-iff, end-low, end-up, end-if, end-only, not-entered}
+use Rattle.geometry.proofs.Sides.{best, Crossed, enters-iff, end-low, end-up, end-if, end-only, not-entered}
 use Rattle.geometry.proofs.Turns.{scaled}
 
 -- the turn of the point t / n of the way, times n, from the turns of both ends

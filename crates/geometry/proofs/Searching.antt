@@ -8,7 +8,7 @@ use native.Mathlib.Omega.{arith}
 use lib.Dec.{lit≤}
 use lib.IntN.{ℤ, pos}
 use lib.Signed.{_≤ℤ_}
-use lib.ListN.{length, getD, take, drop, length-take, length-drop}
+use lib.ListN.{take, drop, length-take, length-drop}
 use lib.Seq.{getD-take, getD-drop}
 use Rattle.geometry.specs.Words.{Point, word, blockWords, corners, BoundedRecord, Bounded}
 use Rattle.geometry.specs.Obstruction.{sideTurn, Obstructs, Hidden}

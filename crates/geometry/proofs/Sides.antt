@@ -1,12 +1,11 @@
 -- A block of m sides: the tightest two of those passed, and when a point of the straight is left of all.
-use mathlib.Core.Path.{_≡_, refl, sym, _∙_, ap, subst}
+use mathlib.Core.Path.{_≡_, refl}
 use mathlib.Core.Logic.{_↔_, _⊎_, inl, inr, ⊎-elim}
-use Prim.Native.Nat.{ℕ, zero, suc, _+_, _*_, _-_, _<_, _≤_}
+use Prim.Native.Nat.{ℕ, zero, suc, _+_, _<_, _≤_}
 use native.Mathlib.Omega.{arith}
-use native.Mathlib.Numerals.{add-one}
 use native.Mathlib.Nat.{eq-or-lt-of-le}
 use lib.IntN.{ℤ, pos, _*ℤ_}
-use lib.Signed.{_≤ℤ_, _<ℤ_, ltZ-yes, <ℤ-irrefl}
+use lib.Signed.{_≤ℤ_, _<ℤ_, ltZ-yes}
 use Rattle.geometry.specs.Sides.{In, Inside, Enters, Span}
 use Rattle.geometry.proofs.Signed.{below-or-not, lt-le}
 use Rattle.geometry.proofs.Weights.{enters-of, of-enters, tighter, tighter-up, in-both, in-neither, in-first, in-last, meet-only, meet-if, Meets}

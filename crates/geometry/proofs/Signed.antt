@@ -4,9 +4,9 @@ use mathlib.Core.Logic.{_⊎_, inl, inr}
 use mathlib.Core.Bool.{Bool, true, false, not, cond}
 use Prim.Native.Nat.{ℕ, zero, suc, _+_, _*_, _-_, _<_, _≤_}
 use native.Mathlib.Omega.{arith}
-use lib.Dec.{T, ltb, leb, ltb→lt, nltb→le, lt→ltb, leb→le, le→leb}
-use lib.IntN.{ℤ, pos, negsuc, negℤ, natAbs, _+ℤ_, _-ℤ_, _*ℤ_, subℕ, pos-ne-negsuc, *ℤ-comm, +ℤ-comm, +ℤ-assoc, negℤ-+ℤ, negℤ-negℤ}
-use lib.Signed.{_≤ℤ_, _<ℤ_, ltZ, leZ, ltZ-yes, ltZ-no}
+use lib.Dec.{T, ltb, ltb→lt, nltb→le, lt→ltb, leb→le, le→leb}
+use lib.IntN.{ℤ, pos, negsuc, negℤ, _+ℤ_, _*ℤ_, subℕ, pos-ne-negsuc, *ℤ-comm, +ℤ-comm, +ℤ-assoc, negℤ-+ℤ, negℤ-negℤ}
+use lib.Signed.{_≤ℤ_, _<ℤ_, ltZ, ltZ-yes, ltZ-no}
 
 infix 50 _⊖_
 unfoldable pub _⊖_ : ℕ → ℕ → ℤ
@@ -99,12 +99,6 @@ module _ (a b c d : ℕ) where
       ⊖-ind (λ z. z <ℤ (c ⊖ d) → a + d < c + b) a b
       (λ k h. ⊖-ind (λ z. pos k <ℤ z → a + d < c + b) c d (λ l i t. omega (arith, ltb→lt k l (t .lt))) (λ l i t. absurd (t .lt)))
       (λ k h. ⊖-ind (λ z. negsuc k <ℤ z → a + d < c + b) c d (λ l i t. omega arith) (λ l i t. omega (arith, ltb→lt l k (t .lt))))
-
-  pub eq-⊖ : a ⊖ b ≡ c ⊖ d → a + d ≡ c + b
-  eq-⊖ =
-      ⊖-ind (λ z. z ≡ c ⊖ d → a + d ≡ c + b) a b
-      (λ k h. ⊖-ind (λ z. pos k ≡ z → a + d ≡ c + b) c d (λ l i t. let e : k ≡ l = cc in omega arith) (λ l i t. absurd (pos-ne-negsuc k l t)))
-      (λ k h. ⊖-ind (λ z. negsuc k ≡ z → a + d ≡ c + b) c d (λ l i t. absurd (pos-ne-negsuc l k (sym t))) (λ l i t. let e : k ≡ l = cc in omega arith))
 
 pub neg-pos : (n : ℕ) → negℤ (pos n) ≡ 0 ⊖ n
 neg-pos n = ap negℤ (posn n) ∙ neg-⊖ n 0

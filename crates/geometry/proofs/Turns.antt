@@ -15,10 +15,6 @@ cross px py qx qy dx dy = crossℤ (pos px) (pos py) (pos qx) (pos qy) (pos dx) 
 abbrev pub along : (n t a b : ℕ) → ℤ
 along n t a b = pos n *ℤ pos a +ℤ pos t *ℤ (pos b -ℤ pos a)
 
--- as a difference of sums of products
-pub cross-is : (px py qx qy dx dy : ℕ) → cross px py qx qy dx dy ≡ (qx * dy + qy * px + py * dx) ⊖ (qx * py + px * dy + qy * dx)
-cross-is px py qx qy dx dy = simp diff (⊖-eq _ _ _ _ (omega arith))
-
 -- `omega` takes 64 monomials at most: the identity goes in steps
 lever : (n t a b p : ℤ) → (n *ℤ a +ℤ t *ℤ (b -ℤ a)) -ℤ n *ℤ p ≡ (n -ℤ t) *ℤ (a -ℤ p) +ℤ t *ℤ (b -ℤ p)
 lever =

@@ -1,13 +1,12 @@
 -- A side's two numbers (x, y), where the straight's ends stand against it, and the weights (u, s) of a point of the straight: the point is inside the side where u x + s y > 0.
-use mathlib.Core.Path.{_≡_, refl, sym, _∙_, ap, subst}
-use mathlib.Core.Logic.{_↔_, _⊎_, inl, inr, ⊎-elim}
-use Prim.Native.Nat.{ℕ, zero, suc, _+_, _*_, _-_, _<_, _≤_}
-use native.Mathlib.Nat.{mul-le-mul-left, mul-lt-mul-of-pos-right, mul-lt-mul-of-pos-left, lt-of-mul-lt-mul-right, lt-of-mul-lt-mul-left, mul-le-mul}
+use mathlib.Core.Path.{_≡_}
+use Prim.Native.Nat.{ℕ, suc, _+_, _*_, _-_, _<_, _≤_}
+use native.Mathlib.Nat.{mul-le-mul-left, mul-lt-mul-of-pos-right, lt-of-mul-lt-mul-right, lt-of-mul-lt-mul-left, mul-le-mul}
 use native.Mathlib.Omega.{arith}
-use lib.IntN.{ℤ, pos, negsuc, negℤ, _+ℤ_, _-ℤ_, _*ℤ_}
+use lib.IntN.{ℤ, pos, _+ℤ_, _-ℤ_, _*ℤ_}
 use lib.Signed.{_≤ℤ_, _<ℤ_}
 use Rattle.geometry.specs.Sides.{In, Inside, Enters}
-use Rattle.geometry.proofs.Signed.{_⊖_, diff, undiff, nonpos, positive, ⊖-eq, ⊖-lt, lt-⊖, ⊖-le, le-⊖}
+use Rattle.geometry.proofs.Signed.{_⊖_, diff, undiff, nonpos, positive, ⊖-eq, ⊖-lt, lt-⊖, le-⊖}
 
 -- the point n A + t (B − A), with n = u + t, has the weights u and t
 pub between : (u t : ℕ) (x y : ℤ) → (pos (u + t) -ℤ pos t) *ℤ x +ℤ pos t *ℤ y ≡ pos u *ℤ x +ℤ pos t *ℤ y

@@ -291,7 +291,7 @@ pub fn root_up(n: u64) -> u64
 }
 
 // How far apart two coordinates are.
-fn apart(a: u16, b: u16) -> u64
+pub fn apart(a: u16, b: u16) -> u64
     ensures value { λ r. ⌜ r ≡ gap a b ⌝ }
     ensures small { λ r. ⌜ r ≤ 65535 ⌝ }
 {

@@ -8,6 +8,7 @@ use native.Mathlib.Decide.{decLt}
 use native.Mathlib.Omega.{arith}
 use lib.ListN.{length}
 use Rattle.paths.specs.Path.{Graph, Chain, last, more, NoLater, same, less, then, NoWorse, cheaper, shorter, earlier, IsRoute, NoChain, total}
+use Rattle.paths.specs.Ahead.{Ahead}
 use Rattle.paths.proofs.Short.{chain-two, total-more}
 
 -- a chain's cost with its number of edges, ordered by cost and then by edges
@@ -29,9 +30,6 @@ infix 50 _≼_
 pub data _≼_ (a b : Label) : Type 0 where
   lower : a .len < b .len → a ≼ b
   tied : a .len ≡ b .len → a .hops ≤ b .hops → a ≼ b
-
-pub ≼-refl : (a : Label) → a ≼ a
-≼-refl a = tied refl (omega arith)
 
 pub ≼-trans : {a b c : Label} → a ≼ b → b ≼ c → a ≼ c
 ≼-trans (lower p) (lower q) = lower (omega arith)
@@ -55,15 +53,27 @@ hop-cancel {a} {b} c e =
     let q : 1 + a .hops ≡ 1 + b .hops = ap (λ (x : Label). x .hops) e in
     label-eq (omega arith) (omega arith)
 
--- an edge makes a label strictly larger
-pub hop-up : (c : ℕ) (a : Label) → a ≼ hop c a
-hop-up c a = elim (decLt (a .len) (c + a .len)) [ yes l ↦ lower l | no l ↦ tied (omega arith) (omega arith) ]
+-- a with k more to go
+abbrev pub raise : ℕ → Label → Label
+raise k a = label (k + a .len) (a .hops)
 
-hop-above : {a b : Label} (c : ℕ) → a ≼ b → hop c b ≼ a → ⊥
-hop-above c (lower p) (lower q) = omega arith
-hop-above c (lower p) (tied q r) = omega arith
-hop-above c (tied p s) (lower q) = omega arith
-hop-above c (tied p s) (tied q r) = omega arith
+raise-mono : {a b : Label} (k : ℕ) → a ≼ b → raise k a ≼ raise k b
+raise-mono k (lower p) = lower (omega arith)
+raise-mono k (tied p q) = tied (omega arith) q
+
+raise-none : {a b : Label} (k : ℕ) → k ≡ 0 → a ≼ raise k b → a ≼ b
+raise-none k e (lower p) = lower (omega arith)
+raise-none k e (tied p q) = tied (omega arith) q
+
+-- an edge makes a label strictly larger, also with what is still to go
+raise-up : (j k c : ℕ) (a : Label) → k ≤ c + j → raise k a ≼ raise j (hop c a)
+raise-up j k c a l = elim (decLt (k + a .len) (j + (c + a .len))) [ yes h ↦ lower h | no h ↦ tied (omega arith) (omega arith) ]
+
+raise-above : {a : Label} (j k c : ℕ) (b : Label) → k ≤ c + j → a ≼ raise k b → raise j (hop c b) ≼ a → ⊥
+raise-above j k c b l (lower p) (lower q) = omega arith
+raise-above j k c b l (lower p) (tied q r) = omega arith
+raise-above j k c b l (tied p s) (lower q) = omega arith
+raise-above j k c b l (tied p s) (tied q r) = omega arith
 
 -- the label of a list of vertices, its first and last counted
 abbrev pub labelOf : (ℕ → ℕ → ℕ) → List ℕ → Label
@@ -98,33 +108,39 @@ module _ (G : Graph) (start end : ℕ) where
       reach s (last {v} e) = l v s e
       reach s (more {v} {u} i e c) = m v u s i e (reach (inr i) c)
 
-  -- labels of which those of settled vertices have been passed on: no vertex that is not settled has a label below start's
+  -- labels of which those of settled vertices have been passed on: with what is ahead, no vertex that is not settled has a label below start's
   pub record Settled (Done : ℕ → Type 0) (L : ℕ → Label) : Type 0 where
     pub end-zero : L end ≡ label 0 0
     pub relaxed-last : (v : ℕ) → Source v → G .Edge v end → L v ≼ hop (G .cost v end) (L end)
     pub relaxed : (v u : ℕ) → Source v → G .Inner u → G .Edge v u → Done u → L v ≼ hop (G .cost v u) (L u)
-    pub open′ : (u : ℕ) → G .Inner u → Done u ⊎ (L start ≼ L u)
+    pub ahead : ℕ → ℕ
+    pub leads : Ahead G start ahead
+    pub open′ : (u : ℕ) → G .Inner u → Done u ⊎ (L start ≼ raise (ahead u) (L u))
 
   module _ (Done : ℕ → Type 0) (L : ℕ → Label) (ls : Settled Done L) where
     last-label : (v : ℕ) → labelOf (G .cost) (v ∷ end ∷ []) ≡ hop (G .cost v end) (L end)
     last-label v = ap (hop (G .cost v end)) (sym (ls .end-zero))
 
-    -- no chain is below the label of its first vertex, but those that start is not above
-    pub least-or : {v : ℕ} {us : List ℕ} → Source v → Chain G end v us → (L v ≼ labelOf (G .cost) us) ⊎ (L start ≼ labelOf (G .cost) us)
-    least-or s (last {v} e) = inl (rw (last-label v) (ls .relaxed-last v s e))
-    least-or s (more {v} {u} {us} i e c) = rw (label-more G end v c) (go (ls .open′ u i) (least-or (inr i) c))
-      where
-        up : (a : Label) → a ≼ labelOf (G .cost) us → a ≼ hop (G .cost v u) (labelOf (G .cost) us)
-        up a h = ≼-trans h (hop-up (G .cost v u) (labelOf (G .cost) us))
+    abbrev far : ℕ → Label → Label
+    far v a = raise (ls .ahead v) a
 
-        go : Done u ⊎ (L start ≼ L u) → (L u ≼ labelOf (G .cost) us) ⊎ (L start ≼ labelOf (G .cost) us)
-            → (L v ≼ hop (G .cost v u) (labelOf (G .cost) us)) ⊎ (L start ≼ hop (G .cost v u) (labelOf (G .cost) us))
-        go d (inr h) = inr (up (L start) h)
+    further : (v u : ℕ) (a : Label) → far u a ≼ far v (hop (G .cost v u) a)
+    further v u a = raise-up (ls .ahead v) (ls .ahead u) (G .cost v u) a (ls .leads .step v u)
+
+    -- no chain is below the label of its first vertex, but those that, with what is ahead, start is not above
+    pub least-or : {v : ℕ} {us : List ℕ} → Source v → Chain G end v us → (L v ≼ labelOf (G .cost) us) ⊎ (L start ≼ far v (labelOf (G .cost) us))
+    least-or s (last {v} e) = inl (rw (last-label v) (ls .relaxed-last v s e))
+    least-or s (more {v} {u} {us} i e c) =
+        subst (λ (l : Label). (L v ≼ l) ⊎ (L start ≼ far v l)) (sym (label-more G end v c)) (go (ls .open′ u i) (least-or (inr i) c))
+      where
+        go : Done u ⊎ (L start ≼ far u (L u)) → (L u ≼ labelOf (G .cost) us) ⊎ (L start ≼ far u (labelOf (G .cost) us))
+            → (L v ≼ hop (G .cost v u) (labelOf (G .cost) us)) ⊎ (L start ≼ far v (hop (G .cost v u) (labelOf (G .cost) us)))
+        go d (inr h) = inr (≼-trans h (further v u (labelOf (G .cost) us)))
         go (inl d) (inl h) = inl (≼-trans (ls .relaxed v u s i e d) (hop-mono (G .cost v u) h))
-        go (inr o) (inl h) = inr (up (L start) (≼-trans o h))
+        go (inr o) (inl h) = inr (≼-trans (≼-trans o (raise-mono (ls .ahead u) h)) (further v u (labelOf (G .cost) us)))
 
     pub least : {us : List ℕ} → Chain G end start us → L start ≼ labelOf (G .cost) us
-    least c = ⊎-elim (λ h. h) (λ h. h) (least-or (inl refl) c)
+    least c = ⊎-elim (λ h. h) (λ h. raise-none (ls .ahead start) (ls .leads .none) h) (least-or (inl refl) c)
 
     -- a next vertex by which the labels add up
     pub record Tight (v u : ℕ) : Type 0 where
@@ -140,22 +156,22 @@ module _ (G : Graph) (start end : ℕ) where
     pub first-last : {v : ℕ} → G .Edge v end → labelOf (G .cost) (v ∷ end ∷ []) ≡ L v → Tight v end
     first-last {v} e q = record { next = inl refl; edge = e; sum = sym q ∙ last-label v }
 
-    pub first-more : {v u : ℕ} {us : List ℕ} → Source v → L v ≼ L start → G .Inner u → G .Edge v u → Chain G end u us
+    pub first-more : {v u : ℕ} {us : List ℕ} → Source v → far v (L v) ≼ L start → G .Inner u → G .Edge v u → Chain G end u us
         → labelOf (G .cost) (v ∷ us) ≡ L v → First v u us
     first-more {v} {u} {us} s b i e c q = go (least-or (inr i) c)
       where
         whole : hop (G .cost v u) (labelOf (G .cost) us) ≡ L v
         whole = sym (label-more G end v c) ∙ q
 
-        not-start : L start ≼ labelOf (G .cost) us → ⊥
-        not-start h = hop-above (G .cost v u) h (subst (λ (l : Label). l ≼ L start) (sym whole) b)
+        not-start : L start ≼ far u (labelOf (G .cost) us) → ⊥
+        not-start h = raise-above (ls .ahead v) (ls .ahead u) (G .cost v u) (labelOf (G .cost) us) (ls .leads .step v u) h (subst (λ (l : Label). far v l ≼ L start) (sym whole) b)
 
-        go : (L u ≼ labelOf (G .cost) us) ⊎ (L start ≼ labelOf (G .cost) us) → First v u us
+        go : (L u ≼ labelOf (G .cost) us) ⊎ (L start ≼ far u (labelOf (G .cost) us)) → First v u us
         go (inr h) = absurd (not-start h)
         go (inl h) = with-done (ls .open′ u i)
           where
-            with-done : Done u ⊎ (L start ≼ L u) → First v u us
-            with-done (inr o) = absurd (not-start (≼-trans o h))
+            with-done : Done u ⊎ (L start ≼ far u (L u)) → First v u us
+            with-done (inr o) = absurd (not-start (≼-trans o (raise-mono (ls .ahead u) h)))
             with-done (inl d) =
                 let r : labelOf (G .cost) us ≡ L u =
                 hop-cancel (G .cost v u)
@@ -181,12 +197,15 @@ module _ (G : Graph) (start end : ℕ) where
     not-zero : {us : List ℕ} → Chain G end end us → labelOf (G .cost) us ≡ L end → ⊥
     not-zero c q = omega (arith, chain-two G end c, ap (λ (l : Label). l .hops) (q ∙ ls .end-zero))
 
-    -- a label along the walk is below start's
-    tight-below : {v u : ℕ} → Tight v u → L v ≼ L start → L u ≼ L start
-    tight-below {v} {u} t b = ≼-trans (rw (t .sum) (hop-up (G .cost v u) (L u))) b
+    -- a label along the walk, with what is ahead, is at most start's
+    tight-below : {v u : ℕ} → Tight v u → far v (L v) ≼ L start → far u (L u) ≼ L start
+    tight-below {v} {u} t b = ≼-trans (further v u (L u)) (subst (λ (l : Label). far v l ≼ L start) (t .sum) b)
+
+    start-below : far start (L start) ≼ L start
+    start-below = tied (omega (arith, ls .leads .none)) (omega arith)
 
     -- of the chains with its label, the walk is the first in order
-    pub walk-first : {v : ℕ} {us ws : List ℕ} → Source v → L v ≼ L start → Walk v us → Chain G end v ws → labelOf (G .cost) ws ≡ L v → NoLater us ws
+    pub walk-first : {v : ℕ} {us ws : List ℕ} → Source v → far v (L v) ≼ L start → Walk v us → Chain G end v ws → labelOf (G .cost) ws ≡ L v → NoLater us ws
     walk-first s b (arrive t m) (last e) q = same
     walk-first s b (arrive t m) (more {v} {u} {us} i e c) q =
         let f = first-more s b i e c q in
@@ -228,5 +247,5 @@ module _ (G : Graph) (start end : ℕ) where
               | no k ↦
                   let n : length us ≡ length vs = omega arith in
                   let q : labelOf (G .cost) vs ≡ labelOf (G .cost) us = label-eq (sym l) (omega arith) in
-                  earlier l n (walk-first (inl refl) (≼-refl (L start)) w c (q ∙ walk-label w))
+                  earlier l n (walk-first (inl refl) start-below w c (q ∙ walk-label w))
             ]

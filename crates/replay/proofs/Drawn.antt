@@ -1,6 +1,6 @@
 -- A replay after a start leaves the drawing of its file's book, and a file fixes its edits, its stop and its position.
 use mathlib.Core.Path.{_≡_, refl, sym, ap, _∙_}
-use mathlib.Core.List.{List, [], _∷_}
+use mathlib.Core.List.{List}
 use Prim.Native.Nat.{ℕ}
 use native.Mathlib.Omega.{arith}
 use lib.ListN.{length, take}
@@ -9,10 +9,7 @@ use Rattle.yard.specs.Book.{Edit, emptyBook, answers, afterAll}
 use Rattle.yard.specs.Drawing.{Drawn}
 use Rattle.yard.specs.Edits.{Started}
 use Rattle.yard.proofs.Replay.{demand3}
-use Rattle.yardfile.specs.declared.Item.{Item}
-use Rattle.yardfile.specs.declared.Reading.the-variants.{Found, End, Refused}
-use Rattle.yardfile.specs.File.{readAt}
-use Rattle.replay.specs.Replay.{Reads, atEnd, atStop, onward, editOf, Replayed}
+use Rattle.replay.specs.Replay.{Reads, atEnd, atStop, onward, Replayed}
 
 pub replay-drawn : (f : List ℕ) (T₀ T T′ : Tables) (old ws : List ℕ) (count number at : ℕ)
     → Started T₀ 0 T → (p : Replayed f T old ws count number at T′)

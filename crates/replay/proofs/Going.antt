@@ -1,7 +1,7 @@
 -- A replay on its way: the edits called so far, and how the rest of the file goes on from there.
 use mathlib.Core.Path.{_≡_, refl, sym, ap, _∙_}
 use mathlib.Core.List.{List, [], _∷_, _++_, append-assoc, append-nil}
-use Prim.Native.Nat.{ℕ, suc, _+_, _*_, _<_, _≤_}
+use Prim.Native.Nat.{ℕ, _+_, _*_, _<_, _≤_}
 use native.Mathlib.Numerals.{add-one}
 use native.Mathlib.Omega.{arith}
 use lib.ListN.{length, set, take, drop, length-append, length-set}
@@ -18,7 +18,7 @@ use Rattle.yardfile.specs.declared.Reading.the-variants.{Found}
 use Rattle.yardfile.specs.File.{readAt, numberOf}
 use Rattle.yardfile.proofs.Reading as R
 use Rattle.replay.specs.Replay.{Reads, onward, editOf, Replayed}
-use Rattle.replay.proofs.Taken.{Taken, taken, ended}
+use Rattle.replay.proofs.Taken.{taken, ended}
 
 calls-more : {es : List Edit} {T T₁ T₂ : Tables} {rs : List ℕ} {e : Edit} {r : ℕ} → Calls es T rs T₁ → Called e T₁ r T₂ → Calls (es ++ (e ∷ [])) T (rs ++ (r ∷ [])) T₂
 calls-more noCalls c = call c noCalls

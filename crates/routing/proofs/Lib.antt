@@ -1,5 +1,6 @@
 pub mod Steps
 pub mod Yard
+pub mod Leads
 pub mod Turn
 pub mod Written
 pub mod Walks

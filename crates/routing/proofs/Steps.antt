@@ -18,7 +18,7 @@ use Rattle.geometry.proofs.Roots.{root-is}
 use Rattle.geometry.proofs.Squares.{square-lt}
 use Rattle.tables.specs.Tables.{Records, isCorner, placeOf, pairByte}
 use Rattle.routing.specs.Routes.{ByBytes, cost, graph}
-use Rattle.routing.specs.Keys.{unreached, weight, Open, Corners, Improved, Relaxed, Picked, TightKey, Tells}
+use Rattle.routing.specs.Keys.{unreached, weight, whole, Open, Corners, Improved, Relaxed, Picked, TightKey, Tells}
 
 -- the length of a straight by its square
 pub cost-is : (R : Records) (v s : ℕ) (p q : Point) (n : ℕ) → p ≡ placeOf R v → q ≡ placeOf R s → n ≡ squared p q → cost R v s ≡ rootUp n
@@ -187,20 +187,20 @@ pub relaxed-again : (G : Graph) (waiting : List ℕ) (key key′ : List ℕ) (s 
 relaxed-again G waiting key key′ s ks j v new r m o = ⊎-elim (λ p. p) (λ p. omega (arith, r .short v o (p .0), m .down, p .1)) (m .came)
 
 -- the best of the first j of the list
-pub record Best (key waiting : List ℕ) (n best low j : ℕ) : Type 0 where
+pub record Best (far key waiting : List ℕ) (n best low j : ℕ) : Type 0 where
   pub bound : best ≤ n
   pub top : low ≤ unreached
-  pub has : best < n → (best < j) × (word key (word waiting best) ≡ low) × (low < unreached)
+  pub has : best < n → (best < j) × (whole far key (word waiting best) ≡ low) × (low < unreached)
   pub none : best ≡ n → low ≡ unreached
-  pub least : (i : ℕ) → i < j → low ≤ word key (word waiting i)
+  pub least : (i : ℕ) → i < j → low ≤ whole far key (word waiting i)
 
-pub best-none : (key waiting : List ℕ) (n : ℕ) → Best key waiting n n unreached 0
-best-none key waiting n =
+pub best-none : (far key waiting : List ℕ) (n : ℕ) → Best far key waiting n n unreached 0
+best-none far key waiting n =
     record { bound = omega arith; top = omega arith; has = λ l. absurd (omega arith); none = λ e. refl; least = λ i l. absurd (omega arith) }
 
--- one more mark is relaxed, and its key compared
-module _ (G : Graph) (waiting key key′ : List ℕ) (s ks n best low j v new : ℕ) (l : length key ≡ 240) (a : word waiting j ≡ v) (h : v < 240)
-    (r : Relaxed G waiting j key key′ s ks) (m : Improved G v s ks (word key′ v) new) (b : Best key′ waiting n best low j) where
+-- one more mark is relaxed, and its key with what is ahead compared
+module _ (G : Graph) (far waiting key key′ : List ℕ) (s ks n best low j v new : ℕ) (l : length key ≡ 240) (a : word waiting j ≡ v) (h : v < 240)
+    (r : Relaxed G waiting j key key′ s ks) (m : Improved G v s ks (word key′ v) new) (b : Best far key′ waiting n best low j) where
   here : word (set key′ v new) (word waiting j) ≡ new
   here = ap (word (set key′ v new)) a ∙ getD-set-same key′ v new 0 (omega (arith, r .same))
 
@@ -213,36 +213,42 @@ module _ (G : Graph) (waiting key key′ : List ℕ) (s ks n best low j v new : 
         | no q ↦ getD-set-other key′ v (word waiting i) new 0 q
       ]
 
-  pub best-kept : low ≤ new → Best (set key′ v new) waiting n best low (j + 1)
+  sum-here : whole far (set key′ v new) (word waiting j) ≡ new + word far v
+  sum-here = omega (arith, here, ap (word far) a)
+
+  sum-there : (i : ℕ) → i < j → whole far (set key′ v new) (word waiting i) ≡ whole far key′ (word waiting i)
+  sum-there i c = omega (arith, there i c)
+
+  pub best-kept : low ≤ new + word far v → Best far (set key′ v new) waiting n best low (j + 1)
   best-kept k =
       record {
         bound = b .bound;
         top = b .top;
-        has = λ g. let o = b .has g in (omega (arith, o .0), there best (o .0) ∙ o .1, o .2);
+        has = λ g. let o = b .has g in (omega (arith, o .0), sum-there best (o .0) ∙ o .1, o .2);
         none = b .none;
         least = λ i c.
             elim (decLt i j) [
-              | yes g ↦ omega (arith, b .least i g, there i g)
-              | no g ↦ let q : j ≡ i = omega arith in omega (arith, here, ap (λ (x : ℕ). word (set key′ v new) (word waiting x)) q)
+              | yes g ↦ omega (arith, b .least i g, sum-there i g)
+              | no g ↦ let q : j ≡ i = omega arith in omega (arith, sum-here, ap (λ (x : ℕ). whole far (set key′ v new) (word waiting x)) q)
             ];
       }
 
-  pub best-new : j < n → new < low → Best (set key′ v new) waiting n j new (j + 1)
+  pub best-new : j < n → new + word far v < low → Best far (set key′ v new) waiting n j (new + word far v) (j + 1)
   best-new f k =
       record {
         bound = omega arith;
         top = omega (arith, b .top);
-        has = λ g. (omega arith, here, omega (arith, b .top));
+        has = λ g. (omega arith, sum-here, omega (arith, b .top));
         none = λ e. absurd (omega arith);
         least = λ i c.
             elim (decLt i j) [
-              | yes g ↦ omega (arith, b .least i g, there i g)
-              | no g ↦ let q : j ≡ i = omega arith in omega (arith, here, ap (λ (x : ℕ). word (set key′ v new) (word waiting x)) q)
+              | yes g ↦ omega (arith, b .least i g, sum-there i g)
+              | no g ↦ let q : j ≡ i = omega arith in omega (arith, sum-here, ap (λ (x : ℕ). whole far (set key′ v new) (word waiting x)) q)
             ];
       }
 
-pub best-picked : (key waiting : List ℕ) (n best low j : ℕ) → n ≤ j → Best key waiting n best low j → Picked key waiting n best
-best-picked key waiting n best low j l b =
+pub best-picked : (far key waiting : List ℕ) (n best low j : ℕ) → n ≤ j → Best far key waiting n best low j → Picked far key waiting n best
+best-picked far key waiting n best low j l b =
     record {
       bound = b .bound;
       reached = λ g. let o = b .has g in omega (arith, o .1, o .2);

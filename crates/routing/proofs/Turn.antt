@@ -10,14 +10,17 @@ use native.Mathlib.Omega.{arith}
 use lib.ListN.{length, set, length-set}
 use lib.Seq.{getD-set-same, getD-set-other}
 use Rattle.paths.specs.Path.{Graph, Chain, last, more, NoChain, total}
+use Rattle.paths.specs.Ahead.{Ahead}
 use Rattle.paths.proofs.Short.{chain-two, total-more}
 use Rattle.paths.proofs.Labels.{no-chain}
 use Rattle.geometry.specs.Words.{word}
 use Rattle.tables.specs.Tables.{Records, Fit, isCorner, firstEnd, secondEnd}
 use Rattle.routing.specs.Routes.{ByBytes, graph}
-use Rattle.routing.specs.Keys.{unreached, Filled, weight, Open, Corners, Settling, Relaxed, Picked, Vertex, Keyed, Searched}
+use Rattle.routing.specs.Lead.{ahead}
+use Rattle.routing.specs.Keys.{unreached, Filled, weight, Open, Corners, Listed, Looked, Settling, Relaxed, Picked, Vertex, Keyed, Searched}
 use Rattle.routing.proofs.Yard.{Sized, sized, corner-below}
 use Rattle.routing.proofs.Steps.{open-dec, set-below}
+use Rattle.routing.proofs.Leads.{leads}
 
 -- a chain from v with the key, of few straights, all short: n marks are waiting
 pub record Reaching (G : Graph) (start end v key n : ℕ) : Type 0 where
@@ -28,19 +31,35 @@ pub record Reaching (G : Graph) (start end v key n : ℕ) : Type 0 where
   pub few : length by + n ≤ 195
   pub short : total (G .cost) by ≤ 46340 * (length by - 1)
 
-pub record Inv (G : Graph) (start end : ℕ) (waiting : List ℕ) (n : ℕ) (key : List ℕ) : Type 0 where
+-- the search is led by `lead`, of which the list holds 256 × the values
+pub record Led (G : Graph) (start : ℕ) (lead : ℕ → ℕ) (far : List ℕ) : Type 0 where
+  pub leads : Ahead G start lead
+  pub sized : length far ≡ 240
+  pub each : (v : ℕ) → Vertex G start v → word far v ≡ 256 * lead v
+
+pub record Inv (G : Graph) (start end : ℕ) (lead : ℕ → ℕ) (far waiting : List ℕ) (n : ℕ) (key : List ℕ) : Type 0 where
+  pub led : Led G start lead far
   pub listed : length waiting ≡ 194
   pub keyed : length key ≡ 240
   pub few : n ≤ 193
   pub only : (v : ℕ) → Open waiting n v → Vertex G start v
   pub target : Open waiting n start
+  pub top : (v : ℕ) → v < 240 → word key v ≤ unreached
   pub end-zero : word key end ≡ 0
-  pub order : (s v : ℕ) → Vertex G start s → (Open waiting n s → ⊥) → Open waiting n v → word key s ≤ word key v
+  pub order : (s v : ℕ) → Vertex G start s → (Open waiting n s → ⊥) → Open waiting n v → word key s + 256 * lead s ≤ word key v + 256 * lead v
   pub relaxed-last : (v : ℕ) → Vertex G start v → G .Edge v end → word key v ≤ weight G v end
   pub relaxed : (v s : ℕ) → Vertex G start v → G .Inner s → G .Edge v s → (Open waiting n s → ⊥) → word key v ≤ weight G v s + word key s
   pub attained : (v : ℕ) → v < 240 → (v ≡ end → ⊥) → word key v < unreached → Reaching G start end v (word key v) n
 
-module _ (G : Graph) (start end : ℕ) (z : Sized G start end) where
+-- no key is above that of a mark that is not reached
+key-top : (end : ℕ) (key : List ℕ) → Filled key 240 unreached → (v : ℕ) → v < 240 → word (set key end 0) v ≤ unreached
+key-top end key e v b = go (ℕ-discrete v end)
+  where
+    go : Dec (v ≡ end) → word (set key end 0) v ≤ unreached
+    go (yes q) = omega (arith, ap (word (set key end 0)) q, getD-set-same key end 0 0 (omega (arith, e .sized)))
+    go (no q) = omega (arith, getD-set-other key end v 0 0 q, e .each v b)
+
+module _ (G : Graph) (start end : ℕ) (lead : ℕ → ℕ) (far : List ℕ) (z : Sized G start end) where
   vertex-below : (v : ℕ) → Vertex G start v → v < 240
   vertex-below v (inl q) = omega (arith, z .start-below)
   vertex-below v (inr i) = omega (arith, z .inner-below v i)
@@ -49,17 +68,22 @@ module _ (G : Graph) (start end : ℕ) (z : Sized G start end) where
   not-end v (inl q) e = z .apart (sym q ∙ e)
   not-end v (inr i) e = omega (arith, z .inner-below v i, z .end-above)
 
+  lead-bound : Ahead G start lead → (v : ℕ) → v < 240 → lead v ≤ 46340
+  lead-bound a v l = omega (arith, a .step start v, a .none, z .cost-small start v (z .start-below) l)
+
   -- at the beginning only the end is settled
-  pub begin : (waiting : List ℕ) (n : ℕ) (key key′ : List ℕ) → length waiting ≡ 194 → n ≤ 193 → ((v : ℕ) → Open waiting n v → Vertex G start v)
+  pub begin : Led G start lead far → (waiting : List ℕ) (n : ℕ) (key key′ : List ℕ) → length waiting ≡ 194 → n ≤ 193 → ((v : ℕ) → Open waiting n v → Vertex G start v)
       → ((v : ℕ) → Vertex G start v → Open waiting n v) → Filled key 240 unreached → Relaxed G waiting n (set key end 0) key′ end 0
-      → Inv G start end waiting n key′
-  begin waiting n key key′ l f only all e r =
+      → Inv G start end lead far waiting n key′
+  begin d waiting n key key′ l f only all e r =
       record {
+        led = d;
         listed = l;
         keyed = r .same ∙ length-set key end 0 ∙ e .sized;
         few = f;
         only = only;
         target = all start (inl refl);
+        top = λ v b. omega (arith, r .down v, key-top end key e v b);
         end-zero = omega (arith, r .down end, getD-set-same key end 0 0 (omega (arith, e .sized, z .end-below)));
         order = λ s v x h o. absurd (h (all s x));
         relaxed-last = λ v x g. omega (arith, r .short v (all v x) g);
@@ -73,15 +97,18 @@ module _ (G : Graph) (start end : ℕ) (z : Sized G start end) where
           let c = z .cost-small v end (vertex-below v (only v o)) (z .end-below) in
           record { vertex = only v o; by = v ∷ end ∷ []; chain = last g; exact = omega (arith, q); few = omega arith; short = omega (arith, c) }
 
-  module _ (waiting : List ℕ) (n : ℕ) (key : List ℕ) (i : Inv G start end waiting n key) where
+  module _ (waiting : List ℕ) (n : ℕ) (key : List ℕ) (i : Inv G start end lead far waiting n key) where
     pub marks : (j : ℕ) → j < n → word waiting j < 240
     marks j l = vertex-below (word waiting j) (i .only (word waiting j) (record { place = j; within = l; is = refl }))
 
     pub key-bound : (v : ℕ) → v < 240 → (v ≡ end → ⊥) → word key v < unreached → word key v ≤ 2301429954
     key-bound v l e k = let t = i .attained v l e k in omega (arith, t .exact, t .few, t .short)
 
+    far-is : (v : ℕ) → Open waiting n v → word far v ≡ 256 * lead v
+    far-is v o = i .led .each v (i .only v o)
+
     -- no mark that is waiting is reached
-    none-left : (r : ℕ) → Picked key waiting n r → n ≤ r → NoChain G start end
+    none-left : (r : ℕ) → Picked far key waiting n r → n ≤ r → NoChain G start end
     none-left r p l =
         no-chain G start end (λ v. word key v < unreached)
         (λ v x g. omega (arith, i .relaxed-last v x g, z .cost-small v end (vertex-below v x) (z .end-below)))
@@ -91,30 +118,57 @@ module _ (G : Graph) (start end : ℕ) (z : Sized G start end) where
         (not-open start (i .target))
       where
         not-open : (u : ℕ) → Open waiting n u → word key u < unreached → ⊥
-        not-open u o k = omega (arith, p .rest (omega (arith, p .bound)) (o .place) (o .within), ap (word key) (o .is))
+        not-open u o k =
+            let x = i .only u o in
+            let b = vertex-below u x in
+            omega (
+              arith,
+              p .rest (omega (arith, p .bound)) (o .place) (o .within),
+              ap (word key) (o .is),
+              ap (word far) (o .is),
+              far-is u o,
+              lead-bound (i .led .leads) u b,
+              key-bound u b (not-end u x) k,
+            )
 
     -- start is the next to be settled
-    start-next : (r : ℕ) → Picked key waiting n r → r < n → word waiting r ≡ start → Keyed G start end key
+    start-next : (r : ℕ) → Picked far key waiting n r → r < n → word waiting r ≡ start → Keyed G start end key
     start-next r p l q =
         record {
           sized = i .keyed;
           end-zero = i .end-zero;
           reached = omega (arith, p .reached l, ap (word key) q);
           relaxed-last = i .relaxed-last;
-          relaxed = λ v u x j g k. i .relaxed v u x j g (λ o. omega (arith, p .least l (o .place) (o .within), ap (word key) (o .is), ap (word key) q));
+          ahead = lead;
+          leads = i .led .leads;
+          relaxed = λ v u x j g k. i .relaxed v u x j g (λ o. above-start u o k);
           attained = λ v b e k.
               let t = i .attained v b e k in
               record { vertex = t .vertex; by = t .by; chain = t .chain; exact = t .exact; few = omega (arith, t .few) };
         }
+      where
+        above-start : (u : ℕ) → Open waiting n u → word key u + 256 * lead u < word key start → ⊥
+        above-start u o k =
+            omega (
+              arith,
+              p .least l (o .place) (o .within),
+              ap (word key) (o .is),
+              ap (word far) (o .is),
+              ap (word key) q,
+              ap (word far) q,
+              far-is u o,
+              far-is start (i .target),
+              i .led .leads .none,
+            )
 
-    pub answer-none : (r : ℕ) → Picked key waiting n r → n ≤ r → Searched G start end key false
+    pub answer-none : (r : ℕ) → Picked far key waiting n r → n ≤ r → Searched G start end key false
     answer-none r p l = record { way = λ e. let y : _≡_ {A = ℕ} 0 1 = cc in absurd (omega arith); no-way = λ e. none-left r p l }
 
-    pub answer-found : (r : ℕ) → Picked key waiting n r → r < n → word waiting r ≡ start → Searched G start end key true
+    pub answer-found : (r : ℕ) → Picked far key waiting n r → r < n → word waiting r ≡ start → Searched G start end key true
     answer-found r p l q = record { way = λ e. start-next r p l q; no-way = λ e. let y : _≡_ {A = ℕ} 0 1 = cc in absurd (omega arith) }
 
     -- one more mark is settled
-    module _ (r : ℕ) (p : Picked key waiting n r) (l : r < n) (ne : word waiting r ≡ start → ⊥) where
+    module _ (r : ℕ) (p : Picked far key waiting n r) (l : r < n) (ne : word waiting r ≡ start → ⊥) where
       abbrev u : ℕ
       u = word waiting r
 
@@ -131,7 +185,7 @@ module _ (G : Graph) (start end : ℕ) (z : Sized G start end) where
       u-below = vertex-below u (inr u-inner)
 
       u-reached : word key u < unreached
-      u-reached = p .reached l
+      u-reached = omega (arith, p .reached l)
 
       not-start : u ≡ start → ⊥
       not-start q = ne q
@@ -169,13 +223,23 @@ module _ (G : Graph) (start end : ℕ) (z : Sized G start end) where
       settled-before : (s : ℕ) → (Open rest (n - 1) s → ⊥) → (s ≡ u) ⊎ (Open waiting n s → ⊥)
       settled-before s h = elim (ℕ-discrete s u) [ yes q ↦ inl q | no q ↦ inr (λ o. h (still-open s q o)) ]
 
-      pub settling : Settling rest (n - 1) key u (word key u)
+      rest-open : (j : ℕ) → j < n - 1 → Open waiting n (word rest j)
+      rest-open j b = was-open (word rest j) (record { place = j; within = b; is = refl })
+
+      rest-below : (j : ℕ) → j < n - 1 → word rest j < 240
+      rest-below j b = vertex-below (word rest j) (i .only (word rest j) (rest-open j b))
+
+      rest-sized : length rest ≡ 194
+      rest-sized = length-set waiting r (word waiting (n - 1)) ∙ i .listed
+
+      pub settling : Settling far rest (n - 1) key u (word key u)
       settling =
           record {
-            marks = λ j b. vertex-below (word rest j) (i .only (word rest j) (was-open (word rest j) (record { place = j; within = b; is = refl })));
-            listed = length-set waiting r (word waiting (n - 1)) ∙ i .listed;
-            few = omega (arith, i .few);
+            list = record { marks = rest-below; sized = rest-sized; few = omega (arith, i .few) };
             keyed = i .keyed;
+            top = i .top;
+            looked = i .led .sized;
+            near = λ j b. omega (arith, far-is (word rest j) (rest-open j b), lead-bound (i .led .leads) (word rest j) (rest-below j b));
             below = u-below;
             own = refl;
             small = omega (arith, key-bound u u-below (not-end u (inr u-inner)) u-reached);
@@ -185,18 +249,18 @@ module _ (G : Graph) (start end : ℕ) (z : Sized G start end) where
         kept : (s : ℕ) → (Open rest (n - 1) s → ⊥) → word key′ s ≡ word key s
         kept s h = ⊎-elim (λ q. q) (λ q. absurd (h (q .0))) (x .came s)
 
-        below-u : (s : ℕ) → Vertex G start s → (Open rest (n - 1) s → ⊥) → word key s ≤ word key u
-        below-u s a h = ⊎-elim (λ q. omega (arith, ap (word key) q)) (λ g. i .order s u a g u-open) (settled-before s h)
+        below-u : (s : ℕ) → Vertex G start s → (Open rest (n - 1) s → ⊥) → word key s + 256 * lead s ≤ word key u + 256 * lead u
+        below-u s a h = ⊎-elim (λ q. omega (arith, ap (λ (k : ℕ). word key k + 256 * lead k) q)) (λ g. i .order s u a g u-open) (settled-before s h)
 
-        above-u : (v : ℕ) → Open waiting n v → word key u ≤ word key v
-        above-u v o = omega (arith, p .least l (o .place) (o .within), ap (word key) (o .is))
+        above-u : (v : ℕ) → Open waiting n v → word key u + 256 * lead u ≤ word key v + 256 * lead v
+        above-u v o = omega (arith, p .least l (o .place) (o .within), ap (word key) (o .is), ap (word far) (o .is), far-is v o, far-is u u-open)
 
-        next-order : (s v : ℕ) → Vertex G start s → (Open rest (n - 1) s → ⊥) → Open rest (n - 1) v → word key′ s ≤ word key′ v
+        next-order : (s v : ℕ) → Vertex G start s → (Open rest (n - 1) s → ⊥) → Open rest (n - 1) v → word key′ s + 256 * lead s ≤ word key′ v + 256 * lead v
         next-order s v a h o =
             let ks = kept s h in
             let bs = below-u s a h in
             let bv = above-u v (was-open v o) in
-            ⊎-elim (λ e. omega arith) (λ w. omega (arith, w .2)) (x .came v)
+            ⊎-elim (λ e. omega arith) (λ w. omega (arith, w .2, i .led .leads .step v u)) (x .came v)
 
         next-relaxed : (v s : ℕ) → Vertex G start v → G .Inner s → G .Edge v s → (Open rest (n - 1) s → ⊥) → word key′ v ≤ weight G v s + word key′ s
         next-relaxed v s a j g h =
@@ -207,7 +271,7 @@ module _ (G : Graph) (start end : ℕ) (z : Sized G start end) where
               | yes o ↦
                   let g′ : G .Edge v u = subst (λ (k : ℕ). G .Edge v k) q g in
                   omega (arith, x .short v o g′, ap (λ (k : ℕ). weight G v k + word key k) q)
-              | no o ↦ omega (arith, kept v o, below-u v a o, ap (word key) q)
+              | no o ↦ omega (arith, kept v o, below-u v a o, i .led .leads .step v u, ap (λ (k : ℕ). weight G v k + word key k) q)
             ])
             (λ b. omega (arith, x .down v, i .relaxed v s a j g b))
             (settled-before s h)
@@ -232,14 +296,16 @@ module _ (G : Graph) (start end : ℕ) (z : Sized G start end) where
             })
             (x .came v)
 
-        pub next : Inv G start end rest (n - 1) key′
+        pub next : Inv G start end lead far rest (n - 1) key′
         next =
             record {
-              listed = settling .listed;
+              led = i .led;
+              listed = rest-sized;
               keyed = x .same ∙ i .keyed;
               few = omega (arith, i .few);
               only = λ v o. i .only v (was-open v o);
               target = still-open start (λ q. not-start (sym q)) (i .target);
+              top = λ v b. omega (arith, x .down v, i .top v b);
               end-zero = kept end (λ o. not-end end (i .only end (was-open end o)) refl) ∙ i .end-zero;
               order = next-order;
               relaxed-last = λ v a g. omega (arith, x .down v, i .relaxed-last v a g);
@@ -249,42 +315,66 @@ module _ (G : Graph) (start end : ℕ) (z : Sized G start end) where
 
 -- the list of the corners with start behind them
 module _ (R : Records) (pairs : List ℕ) (m : ℕ) (waiting : List ℕ) (n : ℕ) (c : Corners (R .blocks) waiting 192 n) where
-  start-here : word (set waiting n (firstEnd m)) n ≡ firstEnd m
+  abbrev G : Graph
+  G = graph R (ByBytes pairs)
+
+  abbrev list : List ℕ
+  list = set waiting n (firstEnd m)
+
+  abbrev lead : ℕ → ℕ
+  lead v = ahead R (firstEnd m) v
+
+  start-here : word list n ≡ firstEnd m
   start-here = getD-set-same waiting n (firstEnd m) 0 (omega (arith, c .sized, c .few))
 
-  pub list-only : (v : ℕ) → Open (set waiting n (firstEnd m)) (n + 1) v → Vertex (graph R (ByBytes pairs)) (firstEnd m) v
+  pub list-only : (v : ℕ) → Open list (n + 1) v → Vertex G (firstEnd m) v
   list-only v o =
       elim (decLt (o .place) n) [
         | yes l ↦ inr (subst (λ (x : ℕ). isCorner (R .blocks) x ≡ true) (sym (set-below waiting n (o .place) (firstEnd m) l) ∙ o .is) (c .only (o .place) l))
-        | no l ↦ let q : n ≡ o .place = omega (arith, o .within) in inl (sym (o .is) ∙ ap (word (set waiting n (firstEnd m))) (sym q) ∙ start-here)
+        | no l ↦ let q : n ≡ o .place = omega (arith, o .within) in inl (sym (o .is) ∙ ap (word list) (sym q) ∙ start-here)
       ]
 
-  pub list-all : (v : ℕ) → Vertex (graph R (ByBytes pairs)) (firstEnd m) v → Open (set waiting n (firstEnd m)) (n + 1) v
+  pub list-all : (v : ℕ) → Vertex G (firstEnd m) v → Open list (n + 1) v
   list-all v (inl q) = record { place = n; within = omega arith; is = start-here ∙ sym q }
   list-all v (inr e) =
       let o = c .all v (corner-below (R .blocks) v e) e in
       record { place = o .place; within = omega (arith, o .within); is = set-below waiting n (o .place) (firstEnd m) (o .within) ∙ o .is }
 
-  pub list-sized : length (set waiting n (firstEnd m)) ≡ 194
+  pub list-sized : length list ≡ 194
   list-sized = length-set waiting n (firstEnd m) ∙ c .sized
 
-  -- the end is relaxed first
-  pub first-settling : (key : List ℕ) → Fit R → m < 24 → Filled key 240 unreached → Settling (set waiting n (firstEnd m)) (n + 1) (set key (secondEnd m) 0) (secondEnd m) 0
-  first-settling key f l b =
+  pub list-listed : Fit R → m < 24 → Listed list (n + 1)
+  list-listed f l =
       record {
-        marks = λ j h.
-            vertex-below (graph R (ByBytes pairs)) (firstEnd m) (secondEnd m) (sized R pairs m f l) (word (set waiting n (firstEnd m)) j)
-            (list-only (word (set waiting n (firstEnd m)) j) (record { place = j; within = h; is = refl }));
-        listed = list-sized;
+        marks = λ j h. vertex-below G (firstEnd m) (secondEnd m) lead [] (sized R pairs m f l) (word list j) (list-only (word list j) (record { place = j; within = h; is = refl }));
+        sized = list-sized;
         few = omega (arith, c .few);
-        keyed = length-set key (secondEnd m) 0 ∙ b .sized;
-        below = omega arith;
-        own = getD-set-same key (secondEnd m) 0 0 (omega (arith, b .sized));
-        small = omega arith;
       }
 
-  pub first-inv : (key key′ : List ℕ) → Fit R → m < 24 → Filled key 240 unreached
-      → Relaxed (graph R (ByBytes pairs)) (set waiting n (firstEnd m)) (n + 1) (set key (secondEnd m) 0) key′ (secondEnd m) 0
-      → Inv (graph R (ByBytes pairs)) (firstEnd m) (secondEnd m) (set waiting n (firstEnd m)) (n + 1) key′
-  first-inv key key′ f l b r =
-      begin (graph R (ByBytes pairs)) (firstEnd m) (secondEnd m) (sized R pairs m f l) (set waiting n (firstEnd m)) (n + 1) key key′ list-sized (omega (arith, c .few)) list-only list-all b r
+  module _ (far key : List ℕ) (f : Fit R) (l : m < 24) (a : Looked lead list (n + 1) far) (b : Filled key 240 unreached) where
+    led : Led G (firstEnd m) lead far
+    led =
+        record {
+          leads = leads R (ByBytes pairs) (firstEnd m);
+          sized = a .sized;
+          each = λ v x.
+              let o = list-all v x in
+              subst (λ (w : ℕ). word far w ≡ 256 * lead w) (o .is) (a .each (o .place) (o .within));
+        }
+
+    -- the end is relaxed first
+    pub first-settling : Settling far list (n + 1) (set key (secondEnd m) 0) (secondEnd m) 0
+    first-settling =
+        record {
+          list = list-listed f l;
+          keyed = length-set key (secondEnd m) 0 ∙ b .sized;
+          top = key-top (secondEnd m) key b;
+          looked = a .sized;
+          near = λ j h. omega (arith, a .each j h, lead-bound G (firstEnd m) (secondEnd m) lead far (sized R pairs m f l) (led .leads) (word list j) (list-listed f l .marks j h));
+          below = omega arith;
+          own = getD-set-same key (secondEnd m) 0 0 (omega (arith, b .sized));
+          small = omega arith;
+        }
+
+    pub first-inv : (key′ : List ℕ) → Relaxed G list (n + 1) (set key (secondEnd m) 0) key′ (secondEnd m) 0 → Inv G (firstEnd m) (secondEnd m) lead far list (n + 1) key′
+    first-inv key′ r = begin G (firstEnd m) (secondEnd m) lead far (sized R pairs m f l) led list (n + 1) key key′ list-sized (omega (arith, c .few)) list-only list-all b r

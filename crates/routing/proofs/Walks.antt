@@ -9,7 +9,7 @@ use native.Mathlib.Numerals.{add-three}
 use native.Mathlib.Omega.{arith}
 use lib.ListN.{length, set, replicate, length-append}
 use Rattle.paths.specs.Path.{Graph, Chain, last, more}
-use Rattle.paths.proofs.Labels.{Label, label, label-eq, hop, _≼_, lower, tied, labelOf, Settled, Tight, first-last, first-more, Walk, arrive, onward, walk-label, walk-route}
+use Rattle.paths.proofs.Labels.{Label, label, label-eq, hop, raise, _≼_, lower, tied, labelOf, Settled, Tight, first-last, first-more, Walk, arrive, onward, walk-label, walk-route}
 use Rattle.geometry.specs.Words.{word}
 use Rattle.routing.specs.Keys.{unreached, Filled, Attained, Keyed, TightKey, Hop, marksOnly, Walked}
 use Rattle.routing.proofs.Yard.{Sized}
@@ -19,23 +19,27 @@ use Rattle.routing.proofs.Written.{filled-is}
 abbrev pub keyLabel : ℕ → Label
 keyLabel k = label (k / 256) (k % 256)
 
-key-order : (a b : ℕ) → a ≤ b → keyLabel a ≼ keyLabel b
-key-order a b h = elim (decLt (a / 256) (b / 256)) [ yes l ↦ lower l | no l ↦ tied (omega arith) (omega arith) ]
+-- the order of two keys, one of them with what is ahead
+key-below : (a b k : ℕ) → a + 256 * k ≤ b → raise k (keyLabel a) ≼ keyLabel b
+key-below a b k h = elim (decLt (k + a / 256) (b / 256)) [ yes l ↦ lower l | no l ↦ tied (omega arith) (omega arith) ]
+
+key-above : (a b k : ℕ) → b ≤ a + 256 * k → keyLabel b ≼ raise k (keyLabel a)
+key-above a b k h = elim (decLt (b / 256) (k + a / 256)) [ yes l ↦ lower l | no l ↦ tied (omega arith) (omega arith) ]
 
 -- a key that an edge passes on, of few straights
 key-hop : (a b c : ℕ) → a ≤ 256 * c + 1 + b → b % 256 ≤ 193 → keyLabel a ≼ hop c (keyLabel b)
 key-hop a b c h f = elim (decLt (a / 256) (c + b / 256)) [ yes l ↦ lower l | no l ↦ tied (omega arith) (omega arith) ]
 
 -- a mark on the way
-pub record On (start end : ℕ) (key : List ℕ) (v : ℕ) : Type 0 where
+pub record On (G : Graph) (start end : ℕ) (key : List ℕ) (v : ℕ) : Type 0 where
   pub below : v < 240
   pub not-end : v ≡ end → ⊥
-  pub near : word key v ≤ word key start
+  pub near : (k : Keyed G start end key) → word key v + 256 * k .ahead v ≤ word key start
 
 module _ (G : Graph) (start end : ℕ) (key : List ℕ) (z : Sized G start end) (k : Keyed G start end key) where
   -- the marks whose keys are final
   abbrev pub Final : ℕ → Type 0
-  Final u = word key u < word key start
+  Final u = word key u + 256 * k .ahead u < word key start
 
   abbrev pub L : ℕ → Label
   L v = keyLabel (word key v)
@@ -46,7 +50,7 @@ module _ (G : Graph) (start end : ℕ) (key : List ℕ) (z : Sized G start end) 
   pub few : (v : ℕ) → v < 240 → (v ≡ end → ⊥) → word key v < unreached → word key v % 256 ≤ 193
   few v b e h = let t = at v b e h in omega (arith, t .exact, t .few)
 
-  inner-few : (u : ℕ) → G .Inner u → word key u < word key start → word key u % 256 ≤ 193
+  inner-few : (u : ℕ) → G .Inner u → Final u → word key u % 256 ≤ 193
   inner-few u i h =
       let b = z .inner-below u i in
       few u (omega arith) (λ (q : u ≡ end). omega (arith, z .end-above)) (omega (arith, k .reached))
@@ -57,10 +61,12 @@ module _ (G : Graph) (start end : ℕ) (key : List ℕ) (z : Sized G start end) 
         end-zero = label-eq (omega (arith, k .end-zero)) (omega (arith, k .end-zero));
         relaxed-last = λ v x g. key-hop (word key v) (word key end) (G .cost v end) (omega (arith, k .relaxed-last v x g)) (omega (arith, k .end-zero));
         relaxed = λ v u x i g d. key-hop (word key v) (word key u) (G .cost v u) (k .relaxed v u x i g d) (inner-few u i d);
+        ahead = k .ahead;
+        leads = k .leads;
         open′ = λ u i.
-            elim (decLt (word key u) (word key start)) [
+            elim (decLt (word key u + 256 * k .ahead u) (word key start)) [
               | yes l ↦ inl l
-              | no l ↦ inr (key-order (word key start) (word key u) (omega arith))
+              | no l ↦ inr (key-above (word key u) (word key start) (k .ahead u) (omega arith))
             ];
       }
 
@@ -76,16 +82,20 @@ module _ (G : Graph) (start end : ℕ) (key : List ℕ) (z : Sized G start end) 
       let h : word key v % 256 ≡ 1 + word key u % 256 = ap (λ (x : Label). x .hops) (t .sum) in
       record { edge = t .edge; sum = omega arith }
 
-  on-vertex : (v : ℕ) → On start end key v → Attained G start end v (word key v)
-  on-vertex v o = at v (o .below) (o .not-end) (omega (arith, o .near, k .reached))
+  on-vertex : (v : ℕ) → On G start end key v → Attained G start end v (word key v)
+  on-vertex v o = at v (o .below) (o .not-end) (omega (arith, o .near k, k .reached))
 
-  pub start-on : On start end key start
-  start-on = record { below = z .start-below; not-end = z .apart; near = omega arith }
+  pub start-on : On G start end key start
+  start-on = record { below = z .start-below; not-end = z .apart; near = λ j. omega (arith, j .leads .none) }
 
-  module _ (v : ℕ) (o : On start end key v) where
+  module _ (v : ℕ) (o : On G start end key v) where
+    -- a tight straight leads to a mark whose key is final
+    tight-near : (j : Keyed G start end key) (u : ℕ) → TightKey G v u (word key v) (word key u) → word key u + 256 * j .ahead u < word key start
+    tight-near j u t = omega (arith, t .sum, o .near j, j .leads .step v u)
+
     key-tight : (u : ℕ) → u < 192 → TightKey G v u (word key v) (word key u) → G .Inner u × Tightly v u
     key-tight u l t =
-        let f : word key u < word key start = omega (arith, t .sum, o .near) in
+        let f : Final u = tight-near k u t in
         let i : G .Inner u =
         ⊎-elim (λ (q : u ≡ start). absurd (omega (arith, z .start-above))) (λ j. j)
         (at u (omega arith) (λ (q : u ≡ end). omega (arith, z .end-above)) (omega (arith, k .reached)) .vertex) in
@@ -96,6 +106,7 @@ module _ (G : Graph) (start end : ℕ) (key : List ℕ) (z : Sized G start end) 
 
     -- some next mark is tight
     some : (u : ℕ) × Tightly v u
+    unfolding settled
     some = go (on-vertex v o .by) (on-vertex v o .chain) (label-eq (omega (arith, t .exact, t .few)) (omega (arith, t .exact, t .few)))
       where
         t : Attained G start end v (word key v)
@@ -104,7 +115,7 @@ module _ (G : Graph) (start end : ℕ) (key : List ℕ) (z : Sized G start end) 
         go : (us : List ℕ) → Chain G end v us → labelOf (G .cost) us ≡ L v → (u : ℕ) × Tightly v u
         go us (last e) q = (end, first-last G start end Final L settled e q)
         go us (more {u = u} i e c) q =
-            (u, first-more G start end Final L settled (t .vertex) (key-order (word key v) (word key start) (o .near)) i e c q .tight)
+            (u, first-more G start end Final L settled (t .vertex) (key-below (word key v) (word key start) (k .ahead v) (o .near k)) i e c q .tight)
 
     lowest : (r : ℕ) → Hop G end key v r → (w : ℕ) → Tightly v w → r ≤ w
     lowest r h w t =
@@ -137,8 +148,8 @@ module _ (G : Graph) (start end : ℕ) (key : List ℕ) (z : Sized G start end) 
       pub next-way : (us : List ℕ) → Way r us → Way v (v ∷ us)
       next-way us w = let t = key-tight r corner (h .tight corner) in onward (t .0) (t .1) (lowest r h) w
 
-      pub next-on : On start end key r
-      next-on = record { below = omega (arith, corner); not-end = ne; near = omega (arith, h .tight corner .sum, o .near) }
+      pub next-on : On G start end key r
+      next-on = record { below = omega (arith, corner); not-end = ne; near = λ j. omega (arith, tight-near j r (h .tight corner)) }
 
       pub next-falls : word key r < word key v
       next-falls = omega (arith, h .tight corner .sum)
@@ -148,7 +159,7 @@ module _ (G : Graph) (start end : ℕ) (key : List ℕ) (z : Sized G start end) 
       next-straights =
           let b = corner in
           let t = h .tight corner .sum in
-          let f = few r (omega arith) ne (omega (arith, o .near, k .reached)) in
+          let f = few r (omega arith) ne (omega (arith, o .near k, k .reached)) in
           omega arith
 
 -- a mark put behind the others
@@ -167,7 +178,7 @@ put-mark us u l =
 
 -- at v, n marks written
 pub record Going (G : Graph) (start end : ℕ) (key part : List ℕ) (v n : ℕ) : Type 0 where
-  pub on : On start end key v
+  pub on : On G start end key v
   pub past : List ℕ
   pub count : n ≡ length past + 1
   pub room : n + word key v % 256 ≤ 194

@@ -6,12 +6,13 @@ use mathlib.Core.List.{List, _∷_, _++_}
 use Prim.Native.Nat.{ℕ, _+_, _*_, _-_, _/_, _≤_, _<_}
 use lib.ListN.{length, replicate}
 use Rattle.paths.specs.Path.{Graph, Chain, total, IsRoute, NoChain}
+use Rattle.paths.specs.Ahead.{Ahead}
 use Rattle.geometry.specs.Words.{Point, word}
 use Rattle.tables.specs.Tables.{Records, Fit, isCorner, placeOf}
 
--- the key of a mark that is not reached
+-- the key of a mark that is not reached: above all others, and a word with what is ahead
 abbrev pub unreached : ℕ
-unreached = 4294967295
+unreached = 4000000000
 
 -- the list has n words, each of them x
 pub record Filled (t : List ℕ) (n x : ℕ) : Type 0 where
@@ -35,6 +36,17 @@ pub record Corners (blocks waiting : List ℕ) (top n : ℕ) : Type 0 where
   pub all : (u : ℕ) → u < top → isCorner blocks u ≡ true → Open waiting n u
   pub only : (j : ℕ) → j < n → isCorner blocks (word waiting j) ≡ true
 
+-- the first n of the list are marks
+pub record Listed (waiting : List ℕ) (n : ℕ) : Type 0 where
+  pub marks : (j : ℕ) → j < n → word waiting j < 240
+  pub sized : length waiting ≡ 194
+  pub few : n ≤ 194
+
+-- 256 × what is ahead of each of the first n of the list
+pub record Looked (ahead : ℕ → ℕ) (waiting : List ℕ) (n : ℕ) (far : List ℕ) : Type 0 where
+  pub sized : length far ≡ 240
+  pub each : (j : ℕ) → j < n → word far (word waiting j) ≡ 256 * ahead (word waiting j)
+
 -- the tables of a search
 pub record Searchable (R : Records) (pairs : List ℕ) : Type 0 where
   pub fit : Fit R
@@ -55,11 +67,12 @@ pub record Improved (G : Graph) (v s ks old new : ℕ) : Type 0 where
   pub came : (new ≡ old) ⊎ (G .Edge v s × (new ≡ weight G v s + ks))
 
 -- what relaxing the first n of the list by s asks
-pub record Settling (waiting : List ℕ) (n : ℕ) (key : List ℕ) (s ks : ℕ) : Type 0 where
-  pub marks : (j : ℕ) → j < n → word waiting j < 240
-  pub listed : length waiting ≡ 194
-  pub few : n ≤ 194
+pub record Settling (far waiting : List ℕ) (n : ℕ) (key : List ℕ) (s ks : ℕ) : Type 0 where
+  pub list : Listed waiting n
   pub keyed : length key ≡ 240
+  pub top : (v : ℕ) → v < 240 → word key v ≤ unreached
+  pub looked : length far ≡ 240
+  pub near : (j : ℕ) → j < n → word far (word waiting j) ≤ 11863040
   pub below : s < 240
   pub own : word key s ≡ ks
   pub small : ks ≤ 4294967293
@@ -71,12 +84,16 @@ pub record Relaxed (G : Graph) (waiting : List ℕ) (n : ℕ) (key key′ : List
   pub short : (v : ℕ) → Open waiting n v → G .Edge v s → word key′ v ≤ weight G v s + ks
   pub came : (v : ℕ) → (word key′ v ≡ word key v) ⊎ (Open waiting n v × G .Edge v s × (word key′ v ≡ weight G v s + ks))
 
--- r is the place in the list of the least key, or n where no key is reached
-pub record Picked (key waiting : List ℕ) (n r : ℕ) : Type 0 where
+-- a mark's key with what is ahead
+abbrev pub whole : List ℕ → List ℕ → ℕ → ℕ
+whole far key v = word key v + word far v
+
+-- r is the place in the list of the least such sum, or n where no mark is reached
+pub record Picked (far key waiting : List ℕ) (n r : ℕ) : Type 0 where
   pub bound : r ≤ n
-  pub reached : r < n → word key (word waiting r) < unreached
-  pub least : r < n → (j : ℕ) → j < n → word key (word waiting r) ≤ word key (word waiting j)
-  pub rest : r ≡ n → (j : ℕ) → j < n → unreached ≤ word key (word waiting j)
+  pub reached : r < n → whole far key (word waiting r) < unreached
+  pub least : r < n → (j : ℕ) → j < n → whole far key (word waiting r) ≤ whole far key (word waiting j)
+  pub rest : r ≡ n → (j : ℕ) → j < n → unreached ≤ whole far key (word waiting j)
 
 -- what a chain from start may leave from
 abbrev pub Vertex : Graph → ℕ → ℕ → Type 0
@@ -90,13 +107,15 @@ pub record Attained (G : Graph) (start end v key : ℕ) : Type 0 where
   pub exact : 256 * total (G .cost) by + (length by - 1) ≡ key
   pub few : length by ≤ 194
 
--- the keys once start is settled: those below start's are settled too
+-- the keys once start is settled: those that are below start's with what is ahead are settled too
 pub record Keyed (G : Graph) (start end : ℕ) (key : List ℕ) : Type 0 where
   pub sized : length key ≡ 240
   pub end-zero : word key end ≡ 0
   pub reached : word key start < unreached
   pub relaxed-last : (v : ℕ) → Vertex G start v → G .Edge v end → word key v ≤ weight G v end
-  pub relaxed : (v u : ℕ) → Vertex G start v → G .Inner u → G .Edge v u → word key u < word key start → word key v ≤ weight G v u + word key u
+  pub ahead : ℕ → ℕ
+  pub leads : Ahead G start ahead
+  pub relaxed : (v u : ℕ) → Vertex G start v → G .Inner u → G .Edge v u → word key u + 256 * ahead u < word key start → word key v ≤ weight G v u + word key u
   pub attained : (v : ℕ) → v < 240 → (v ≡ end → ⊥) → word key v < unreached → Attained G start end v (word key v)
 
 -- what the search answers

@@ -1,11 +1,12 @@
-// The routes of the runs: a search backwards from the second end by keys, 256 × length + straights, and a walk forwards by them.
+// The routes of the runs: a search from the second end towards the first by keys, 256 × length + straights, and a walk forwards by them.
 ghost use mathlib.Core.Path.{_≡_};
-ghost use Prim.Native.Nat.{ℕ, _+_, _*_, _<_, _≤_};
+ghost use Prim.Native.Nat.{ℕ, _+_, _*_, _<_, _≤_, max};
 ghost use lib.ListN.{length};
 ghost use Rattle.geometry.specs.Words.{pointOf, word};
 ghost use Rattle.tables.specs.Tables.{Fit, stored, firstEnd, secondEnd};
 ghost use Rattle.routing.specs.Routes.{ByBytes, graph, RouteIs, Routed};
-ghost use Rattle.routing.specs.Keys.{unreached, Filled, Corners, Searchable, Relaxable, Improved, Settling, Relaxed, Picked, Keyed, Searched, TightKey, Tells, Hop, Walked};
+ghost use Rattle.routing.specs.Lead.{shadow, atLeast, ahead};
+ghost use Rattle.routing.specs.Keys.{unreached, Filled, Corners, Listed, Looked, Searchable, Relaxable, Improved, Settling, Relaxed, Picked, Keyed, Searched, TightKey, Tells, Hop, Walked};
 use geometry::Place;
 
 // Every word of a record 0.
@@ -35,6 +36,54 @@ fn open_corners(blocks: &[u16], waiting: &mut [usize]) -> usize
         i += 1;
     }
     n
+}
+
+fn larger(a: u32, b: u32) -> u32
+    ensures { λ r. ⌜ r ≡ max a b ⌝ }
+{
+    if a < b { b } else { a }
+}
+
+// 256 × the longest shadow of a straight in five directions, or a little less, by its larger and its smaller difference.
+fn shadow(hi: u32, lo: u32) -> u32
+    requires { ⌜ (hi ≤ 65535) × (lo ≤ 65535) ⌝ }
+    ensures { λ r. ⌜ r ≡ shadow hi lo ⌝ }
+{
+    let flat = larger(larger(256 * hi, 250 * hi + 55 * lo), 236 * hi + 99 * lo);
+    larger(flat, larger(213 * hi + 142 * lo, 181 * hi + 181 * lo))
+}
+
+// 256 × a whole number that the straight from a to b is at least as long as.
+fn at_least(a: Place, b: Place) -> u32
+    ensures { λ r. ⌜ r ≡ 256 * atLeast (pointOf a) (pointOf b) ⌝ }
+{
+    let x = geometry::apart(a.east, b.east) as u32;
+    let y = geometry::apart(a.north, b.north) as u32;
+    let hi = larger(x, y);
+    let lo = x + y - hi;
+    256 * (shadow(hi, lo) / 256)
+}
+
+// 256 × how far each of the first n waiting marks is from the first end at least.
+fn look_ahead(
+    blocks: &[u16],
+    runs: &[u16],
+    waiting: &[usize],
+    n: usize,
+    first: usize,
+    far: &mut [u32],
+)
+    requires { ⌜ (length (now blocks) ≡ 408) × (length (now runs) ≡ 120) ⌝ }
+    requires { ⌜ (Listed (now waiting) n) × (first < 240) × (length (now far) ≡ 240) ⌝ }
+    ensures { λ r. ⌜ Looked (ahead (stored (now (blocks .entry)) (now (runs .entry))) first) (now (waiting .entry)) n (now (far .exit)) ⌝ }
+{
+    let to = tables::place_of(blocks, runs, first);
+    let mut j = 0;
+    while j < n {
+        let v = waiting[j];
+        far[v] = at_least(to, tables::place_of(blocks, runs, v));
+        j += 1;
+    }
 }
 
 // The key of mark v once mark s, at the place given and with the key ks, is settled.
@@ -67,11 +116,12 @@ fn improved(
 }
 
 // Settles s: each of the first n waiting marks gets the key of the way by s where that is less.
-// Answers the place of the least key among them, or n where none is reached.
+// Answers the place of the least key with what is ahead among them, or n where none is reached.
 fn relax(
     blocks: &[u16],
     runs: &[u16],
     pairs: &[u8],
+    far: &[u32],
     waiting: &[usize],
     n: usize,
     key: &mut [u32],
@@ -79,21 +129,22 @@ fn relax(
     ks: u32,
 ) -> usize
     requires { ⌜ Searchable (stored (now blocks) (now runs)) (now pairs) ⌝ }
-    requires { ⌜ Settling (now waiting) n (now key) s ks ⌝ }
+    requires { ⌜ Settling (now far) (now waiting) n (now key) s ks ⌝ }
     ensures relaxed { λ r. ⌜ Relaxed (graph (stored (now (blocks .entry)) (now (runs .entry))) (ByBytes (now (pairs .entry)))) (now (waiting .entry)) n (now (key .entry)) (now (key .exit)) s ks ⌝ }
-    ensures picked { λ r. ⌜ Picked (now (key .exit)) (now (waiting .entry)) n r ⌝ }
+    ensures picked { λ r. ⌜ Picked (now (far .entry)) (now (key .exit)) (now (waiting .entry)) n r ⌝ }
 {
     let at = tables::place_of(blocks, runs, s);
     let mut best = n;
-    let mut low: u32 = 4294967295;
+    let mut low: u32 = 4000000000;
     let mut j = 0;
     while j < n {
         let v = waiting[j];
         let old = key[v];
         let new = improved(blocks, runs, pairs, v, s, at, ks, old);
         key[v] = new;
-        if new < low {
-            low = new;
+        let whole = new + far[v];
+        if whole < low {
+            low = whole;
             best = j;
         }
         j += 1;
@@ -113,8 +164,10 @@ fn settle(blocks: &[u16], runs: &[u16], pairs: &[u8], m: usize, key: &mut [u32])
     let corners = open_corners(blocks, &mut waiting);
     waiting[corners] = first;
     let mut n = corners + 1;
+    let mut far = [0u32; 240];
+    look_ahead(blocks, runs, &waiting, n, first, &mut far);
     key[second] = 0;
-    let mut at = relax(blocks, runs, pairs, &waiting, n, key, second, 0);
+    let mut at = relax(blocks, runs, pairs, &far, &waiting, n, key, second, 0);
     loop {
         if at >= n {
             return false;
@@ -126,7 +179,7 @@ fn settle(blocks: &[u16], runs: &[u16], pairs: &[u8], m: usize, key: &mut [u32])
         n -= 1;
         waiting[at] = waiting[n];
         let ks = key[s];
-        at = relax(blocks, runs, pairs, &waiting, n, key, s, ks);
+        at = relax(blocks, runs, pairs, &far, &waiting, n, key, s, ks);
     }
 }
 
@@ -219,7 +272,7 @@ pub fn route(blocks: &[u16], runs: &[u16], pairs: &[u8], m: usize, part: &mut [u
     if runs[5 * m] == 0 {
         return;
     }
-    let mut key = [4294967295u32; 240];
+    let mut key = [4000000000u32; 240];
     if settle(blocks, runs, pairs, m, &mut key) {
         let n = walk(blocks, runs, pairs, m, &key, part);
         part[0] = 1;

@@ -232,6 +232,8 @@ settled =
       end-zero = refl;
       relaxed-last = λ v s e. step v 193 (pass v 193 s (inr refl)) e;
       relaxed = λ v u s i e d. step v u (pass v u s (inl (corner-low u i))) e;
+      ahead = λ v. 0;
+      leads = record { none = refl; step = λ v u. omega arith };
       open′ = λ u i. inl tt;
     }
 

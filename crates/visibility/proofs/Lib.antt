@@ -1,5 +1,4 @@
 pub mod Lasting
 pub mod Unique
-pub mod Exists
 pub mod Bytes
 pub mod Rows

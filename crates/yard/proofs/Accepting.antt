@@ -1,18 +1,18 @@
 -- An edit's number, once known, as what the call may do: where it is 0 the record to be written is a sound one, and the contract is met by the tables that follow.
-use mathlib.Core.Path.{_≡_, refl, sym, ap, _∙_, subst}
+use mathlib.Core.Path.{_≡_, refl, sym, _∙_, subst}
 use mathlib.Core.List.{List, [], _∷_, _++_, map}
 use mathlib.Core.Bool.{Bool, true, false, _&&_, not}
 use Prim.Native.Nat.{ℕ, zero, suc, _+_, _*_, _-_, _/_, _<_, _≤_}
 use native.Mathlib.Omega.{arith}
 use lib.IntN.{ℤ}
-use lib.ListN.{length, getD, take, drop, replicate, length-map}
+use lib.ListN.{length, take, drop, replicate, length-map}
 use mir.Syntax.{w16}
 use mir.Val.{SFits, toZ, ofZ}
 use mir.ValLaws.{toZ-ofZ}
 use borrow.Author.Tests.{ltb-true, le-leb, leb-true}
-use Rattle.geometry.specs.Words.{Point, word, blockWords, placesFrom, corners, BoundedRecord, Bounded}
-use Rattle.tables.specs.Tables.{Records, Tables, tables, records, stored, Fit}
-use Rattle.tables.specs.Written.{placeWords, blockRecord, runRecord}
+use Rattle.geometry.specs.Words.{Point, word, blockWords, corners, BoundedRecord}
+use Rattle.tables.specs.Tables.{Tables, records, Fit}
+use Rattle.tables.specs.Written.{placeWords, blockRecord}
 use Rattle.tables.proofs.Splices.{word-zeros, blockRecord-length, blockRecord-none, runRecord-none, runRecord-two, places-length, block-first}
 use Rattle.records.specs.Questions.{all, countRight, coordinateRight, placeRight, shiftRight, shifted, lentPlaces, recordsRight}
 use Rattle.records.proofs.Answers.{block-bounded}
@@ -20,9 +20,9 @@ use Rattle.geometry.proofs.Searching.{part-is, record-bounded as record-bounded
 use Rattle.records.proofs.Every.{both}
 use Rattle.records.proofs.Fits.{records-fit}
 use Rattle.records.proofs.Filled.{count-facts}
-use Rattle.yard.specs.Questions.{ask, firstNo, lengthsRight}
+use Rattle.yard.specs.Questions.{firstNo, lengthsRight}
 use Rattle.yard.specs.Book.{Edit, addBlock, removeBlock, moveBlock, addRun, removeRun, moveRun, questions, written}
-use Rattle.yard.specs.Edits.{bookOf, answerOver, Called, fitness}
+use Rattle.yard.specs.Edits.{bookOf, answerOver, Called}
 use Rattle.yard.specs.Filling.{BoundedRun, BlockReplaced, RunReplaced}
 use Rattle.yard.proofs.Sound.{and-yes, first-yes, Standing, new-fit, places-right, words-right, map-right, all-append, all-replicate}
 use Rattle.yard.proofs.Lengths.{Sized, sized-of}

@@ -1,26 +1,25 @@
 -- The number that each way through an edit's questions ends in.
-use mathlib.Core.Path.{_≡_, refl, sym, ap, _∙_}
+use mathlib.Core.Path.{_≡_, sym, ap, _∙_}
 use mathlib.Core.List.{List, [], _∷_}
-use mathlib.Core.Bool.{Bool, true, false, _&&_, not, cond}
-use Prim.Native.Nat.{ℕ, zero, suc, _+_, _*_, _-_, _<_, _≤_}
+use mathlib.Core.Bool.{Bool, true, false, _&&_, not}
+use Prim.Native.Nat.{ℕ, _+_, _*_, _-_, _<_, _≤_}
 use native.Mathlib.Omega.{arith}
-use lib.Dec.{ltb, eqb}
 use lib.IntN.{ℤ}
-use lib.ListN.{length, getD, take, drop}
+use lib.ListN.{length, take, drop}
 use mir.Syntax.{w16}
 use mir.Val.{SFits, toZ, ofZ}
 use mir.ValLaws.{toZ-ofZ}
 use borrow.Author.Tests.{lt-ltb, le-ltb, eq-eqb, ne-eqb, not-true, not-false}
 use Rattle.geometry.specs.Words.{Point, word, blockWords, corners, BoundedRecord}
 use Rattle.geometry.specs.Convexity.{convex}
-use Rattle.tables.specs.Tables.{Records, Tables, tables, stored, records, Fit}
+use Rattle.tables.specs.Tables.{Tables, tables, stored, records, Fit}
 use Rattle.tables.specs.Written.{blockRecord}
 use Rattle.tables.proofs.Splices.{corners-record}
 use Rattle.geometry.proofs.Searching.{part-is}
 use Rattle.records.proofs.Fits.{record-bounded, records-fit}
 use Rattle.records.specs.Questions.{all, countRight, coordinateRight, placeRight, shiftRight, lentPlaces, recordsRight}
 use Rattle.yard.specs.Questions.{Question, ask, firstNo, lengthsRight}
-use Rattle.yard.specs.Book.{Edit, addBlock, removeBlock, moveBlock, addRun, removeRun, moveRun, Book, free, questions}
+use Rattle.yard.specs.Book.{Edit, addBlock, removeBlock, moveBlock, addRun, removeRun, moveRun, free, questions}
 use Rattle.yard.specs.Edits.{bookOf, answerOver, fitness}
 use Rattle.yard.proofs.Sound.{first-yes}
 use Rattle.yard.proofs.Lengths.{Sized, sized-of, lengths-yes, lengths-no}

@@ -13,7 +13,6 @@ use Rattle.tables.specs.Tables.{Records, Tables, records, routeWords}
 use Rattle.visibility.specs.Redrawing.{PairsAnswer}
 use Rattle.routing.specs.Routes.{ByBytes, RouteIs}
 use Rattle.routing.proofs.Unique.{route-unique}
-use Rattle.yard.specs.Drawing.{Right}
 use Rattle.yard.specs.Filling.{Agrees, RouteAnswer, RoutesAnswer}
 use Rattle.yard.specs.Edits.{fitness, Checked}
 use Rattle.yard.proofs.Rerouting.{route-right, route-bytes}

@@ -1,15 +1,14 @@
 -- Demand 3 whole, beside `demand3` of Replay.antt and the laws of Unique.antt: which entries an edit rewrites, and the check and the drawing as one.
-use mathlib.Core.Path.{_≡_, refl, sym, ap, _∙_, subst}
+use mathlib.Core.Path.{_≡_, refl, sym, ap, _∙_}
 use mathlib.Core.Logic.{_⊎_, inl, inr}
 use mathlib.Core.List.{List, [], _∷_}
-use mathlib.Core.Bool.{Bool, true, false, Bool-discrete}
+use mathlib.Core.Bool.{true, Bool-discrete}
 use Prim.Native.Nat.{ℕ, zero, suc, _+_, _*_, _<_, _≤_}
 use native.Mathlib.Decide.{decLt, ℕ-discrete}
 use native.Mathlib.Omega.{arith}
-use lib.ListN.{length, getD, drop, List·getD-eq-default}
+use lib.ListN.{length, drop, List·getD-eq-default}
 use lib.Seq.{ext-getD}
 use Rattle.geometry.specs.Words.{Point, word, placesFrom, blockWords, corners}
-use Rattle.geometry.specs.Obstruction.{cornerAt}
 use Rattle.geometry.proofs.Corners.{corner-is}
 use Rattle.geometry.proofs.Obstructing.{hidden-dec}
 use Rattle.tables.specs.Tables.{Tables, records, runWords, pairIndex, OnBlock, OnRun}
@@ -17,14 +16,14 @@ use Rattle.tables.specs.Written.{blockRecord, runRecord, placeWords}
 use Rattle.tables.proofs.Splices.{places-length, part-length, runRecord-none, word-zeros}
 use Rattle.visibility.specs.Visibility.{Hides, bothPresent, BlockPair, RunPair}
 use Rattle.visibility.proofs.Lasting.{onBlock-dec, onRun-dec, hides-dec}
-use Rattle.records.specs.Questions.{all, coordinateRight, zeroFrom, blockRight, runRight, recordsRight}
+use Rattle.records.specs.Questions.{all, coordinateRight, zeroFrom, blockRight, runRight}
 use Rattle.records.proofs.Every.{zero-word}
 use Rattle.records.proofs.Fits.{Standing, block-cases, run-cases, block-allowed, run-allowed}
 use Rattle.records.proofs.Shifting.{record-ext}
-use Rattle.yard.specs.Questions.{firstNo, lengthsRight}
-use Rattle.yard.specs.Book.{Edit, Book, emptyBook, answer, step, afterAll, Target, theBlock, theRun, target, written, write}
+use Rattle.yard.specs.Questions.{firstNo}
+use Rattle.yard.specs.Book.{Edit, Book, emptyBook, answer, step, afterAll, Target, theBlock, theRun, target, written}
 use Rattle.yard.specs.Drawing.{Right, Drawn}
-use Rattle.yard.specs.Edits.{bookOf, fitness, Edited, Started, Called, Checked}
+use Rattle.yard.specs.Edits.{bookOf, fitness, Edited, Started, Checked}
 use Rattle.yard.specs.History.{Calls, MayRewrite, RewritesOnly}
 use Rattle.yard.proofs.Sound.{Sound, empty-sound, accepted, write-sound}
 use Rattle.yard.proofs.Replay.{step-done, step-refused, drawn-lengths, drawn-records, demand3}

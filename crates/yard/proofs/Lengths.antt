@@ -1,14 +1,14 @@
 -- Question 1: the lengths as facts, and start's answers.
-use mathlib.Core.Path.{_≡_, refl, sym, ap, _∙_}
+use mathlib.Core.Path.{_≡_, refl, ap, _∙_}
 use mathlib.Core.Bool.{Bool, true, false, _&&_, and-eq-true-iff}
-use mathlib.Core.List.{List, []}
+use mathlib.Core.List.{List}
 use Prim.Native.Nat.{ℕ}
 use native.Mathlib.Omega.{arith}
 use lib.Dec.{eqb}
-use lib.ListN.{length, replicate}
+use lib.ListN.{length}
 use borrow.Author.Tests.{eqb-true, eq-eqb}
 use Rattle.tables.specs.Tables.{Tables, tables}
-use Rattle.yard.specs.Questions.{Question, firstNo, lengthsRight}
+use Rattle.yard.specs.Questions.{firstNo, lengthsRight}
 use Rattle.yard.specs.Filling.{filled}
 use Rattle.yard.specs.Edits.{started, Started}
 

@@ -1,12 +1,12 @@
 -- A record written over another: the tables stay such that the layers under the calls may use them.
-use mathlib.Core.Path.{_≡_, refl, sym, ap, _∙_, subst}
+use mathlib.Core.Path.{_≡_, sym, ap, _∙_, subst}
 use mathlib.Core.List.{List}
 use Prim.Native.Nat.{ℕ, _+_, _*_, _-_, _<_, _≤_}
 use native.Mathlib.Decide.{decLt, decLe}
 use native.Mathlib.Omega.{arith}
-use lib.ListN.{length, getD}
+use lib.ListN.{length}
 use Rattle.geometry.specs.Words.{word, BoundedRecord, Bounded}
-use Rattle.tables.specs.Tables.{Records, stored, splice, BoundedRuns, Fit}
+use Rattle.tables.specs.Tables.{stored, splice, BoundedRuns, Fit}
 use Rattle.tables.proofs.Splices.{word-in, splice-length, splice-before, splice-after, splice-here}
 use Rattle.yard.specs.Filling.{BoundedRun}
 

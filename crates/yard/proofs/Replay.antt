@@ -1,15 +1,14 @@
 -- Demand 3, proved: by induction over the calls, the tables stay the drawing of the book.
-use mathlib.Core.Path.{_≡_, refl, sym, ap, _∙_, subst}
+use mathlib.Core.Path.{_≡_, refl, sym, ap, _∙_}
 use mathlib.Core.Logic.{_≢_}
 use mathlib.Core.List.{List, [], _∷_, _++_}
-use mathlib.Core.Bool.{Bool, true, false, _&&_, _||_, true≢false, and-false}
-use Prim.Native.Nat.{ℕ, zero, suc, _+_, _*_, _-_, _/_, _%_, _<_, _≤_}
-use native.Mathlib.Nat.{mul-le-mul}
+use mathlib.Core.Bool.{true, false, _&&_, and-false}
+use Prim.Native.Nat.{ℕ, zero, suc, _*_, _-_, _/_, _%_, _<_, _≤_}
 use native.Mathlib.Omega.{arith}
 use native.Mathlib.Decide.{decLt, ℕ-discrete}
-use lib.Dec.{ltb, leb, eqb}
-use lib.ListN.{length, getD, set, replicate, length-append, length-replicate, List·getD-append}
-use lib.Seq.{getD-at, ext-getD, getD-set-same, getD-set-other, getD-take, getD-drop}
+use lib.Dec.{ltb, leb}
+use lib.ListN.{length, getD, set, length-append, length-replicate, List·getD-append}
+use lib.Seq.{getD-at, ext-getD, getD-set-same, getD-set-other}
 use borrow.Author.Tests.{le-ltb}
 use Rattle.geometry.specs.Words.{Point, blockWords, corners, placesFrom, word}
 use Rattle.tables.specs.Tables.{OnBlock, OnRun, Tables, isCorner, isEnd, pairIndex, present, records, routeWords, runWords}

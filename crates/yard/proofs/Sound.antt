@@ -1,16 +1,15 @@
 -- What an accepted edit puts into the book is what question 2 allows of a stored record.
-use mathlib.Core.Path.{_≡_, refl, sym, ap, _∙_, subst}
-use mathlib.Core.Logic.{_≢_, _⊎_, inl, inr}
+use mathlib.Core.Path.{_≡_, refl, sym, ap, _∙_}
 use mathlib.Core.List.{List, [], _∷_, _++_, map}
-use mathlib.Core.Bool.{Bool, true, false, _&&_, _||_, not, cond, true≢false, and-eq-true-iff, or-true}
+use mathlib.Core.Bool.{Bool, true, false, _&&_, _||_, not, true≢false, and-eq-true-iff, or-true}
 use Prim.Native.Nat.{ℕ, zero, suc, _+_, _*_, _-_, _/_, _%_, _<_, _≤_}
 use native.Mathlib.Nat.{mod-lt, one-mul}
 use native.Mathlib.Omega.{arith}
-use native.Mathlib.Decide.{decLt, decLe, ℕ-discrete}
-use lib.Dec.{T, ltb, leb, eqb}
-use lib.IntN.{ℤ, pos, negsuc, natAbs, negℤ, _+ℤ_, _-ℤ_, _*ℤ_, negℤ-+ℤ, +ℤ-comm, +ℤ-assoc, +ℤ-negℤ-cancel}
-use lib.Signed.{leZ, ltZ}
-use lib.ListN.{length, getD, set, take, drop, replicate, length-map, length-set}
+use native.Mathlib.Decide.{ℕ-discrete}
+use lib.Dec.{leb, eqb}
+use lib.IntN.{ℤ, pos, negsuc, natAbs, negℤ, _+ℤ_, _-ℤ_, negℤ-+ℤ, +ℤ-comm, +ℤ-assoc, +ℤ-negℤ-cancel}
+use lib.Signed.{leZ}
+use lib.ListN.{length, getD, set, drop, replicate, length-map, length-set}
 use lib.Seq.{getD-set-same, getD-set-other, drop-at}
 use borrow.Author.Tests.{ltb-true, leb-true, le-leb}
 use Rattle.geometry.specs.Words.{Point, placeAt, placesFrom, word}

@@ -1,14 +1,9 @@
 -- The definitions leave no choice: a pair's byte, a route's record, the drawing of a book and what a call leaves are each one thing.
-use mathlib.Core.Path.{_≡_, refl, sym, ap, _∙_, subst}
-use mathlib.Core.Logic.{_≢_, _⊎_, inl, inr}
-use mathlib.Core.List.{List, [], _∷_, _++_}
-use mathlib.Core.Bool.{Bool, true, false, _&&_, true≢false, Bool-discrete}
-use Prim.Native.Nat.{ℕ, zero, suc, _+_, _*_, _-_, _/_, _%_, _<_, _≤_}
-use native.Mathlib.Nat.{suc-sub-suc, sub-zero}
-use native.Mathlib.Omega.{arith}
-use native.Mathlib.Decide.{decLt, decLe, ℕ-discrete}
-use lib.ListN.{length, getD, take, drop, replicate}
-use lib.Seq.{getD-take, getD-drop, ext-getD}
+use mathlib.Core.Path.{_≡_, sym, _∙_, subst}
+use mathlib.Core.Logic.{_⊎_, inl, inr}
+use mathlib.Core.List.{List}
+use Prim.Native.Nat.{ℕ}
+use native.Mathlib.Decide.{ℕ-discrete}
 use Rattle.geometry.specs.Words.{Point, word}
 use Rattle.tables.specs.Tables.{Records, Tables, pairIndex, records, routeWords, stored, tables}
 use Rattle.visibility.specs.Visibility.{PairIs}

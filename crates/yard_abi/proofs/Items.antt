@@ -1,5 +1,5 @@
 -- A list of four words after all four are written, and the answers of the exported read.
-use mathlib.Core.Path.{_≡_, refl, sym, ap, _∙_, subst}
+use mathlib.Core.Path.{_≡_, refl, sym, _∙_}
 use mathlib.Core.List.{List, [], _∷_}
 use Prim.Native.Nat.{ℕ}
 use native.Mathlib.Omega.{arith}
@@ -8,7 +8,7 @@ use Rattle.yardfile.specs.declared.Reading.{Reading}
 use Rattle.yardfile.specs.declared.Reading.the-variants.{Found, End, Refused}
 use Rattle.yardfile.specs.declared.Item.{Item}
 use Rattle.yardfile.specs.File.{readAt}
-use Rattle.yard_abi.specs.Reading.{ReadInto, wrongLength, aRecord, theEnd, refusal, itemWords}
+use Rattle.yard_abi.specs.Reading.{ReadInto, aRecord, theEnd, refusal, itemWords}
 
 pub four-set : (l : List ℕ) (a b c d : ℕ) → length l ≡ 4 → set (set (set (set l 0 a) 1 b) 2 c) 3 d ≡ a ∷ b ∷ c ∷ d ∷ []
 four-set [] a b c d e = absurd (omega arith)

@@ -1,18 +1,17 @@
 -- The answers of the reader, one law for each way out of the code.
-use mathlib.Core.Path.{_≡_, refl, sym, ap, _∙_}
+use mathlib.Core.Path.{_≡_, refl, sym, _∙_}
 use mathlib.Core.List.{List}
 use mathlib.Core.Bool.{Bool, true, false, not, _&&_, cond, and-false}
 use Prim.Native.Nat.{ℕ, suc, _+_, _*_, _-_, _<_, _≤_}
 use native.Mathlib.Omega.{arith}
 use native.Mathlib.Decide.{decLt, ℕ-discrete}
-use lib.Dec.{leb, ltb, eqb}
-use lib.IntN.{ℤ, pos, negsuc, _-ℤ_}
+use lib.Dec.{leb, eqb}
+use lib.IntN.{pos, negsuc, _-ℤ_}
 use lib.ListN.{length, List·getD-eq-default}
 use mir.Syntax.{w16, w32}
 use mir.Val.{SFits, toZ, ofZ}
 use mir.ValLaws.{toZ-ofZ}
 use borrow.Author.Tests.{le-leb, lt-leb, lt-ltb, le-ltb, eq-eqb, ne-eqb, leb-true, not-true, not-false}
-use Rattle.yardfile.specs.declared.Reading.{Reading}
 use Rattle.yardfile.specs.declared.Reading.the-variants.{Found, End, Refused}
 use Rattle.yardfile.specs.File.{byte, headRight, bodySize, kindRight, recordWhole, readAt, displacement}
 

@@ -1,8 +1,8 @@
 -- `geometry::narrow` meets its contract.
 use borrow.Author.Needs.{needs}
 use mathlib.Core.Logic.{⊎-elim}
-use lib.IntN.{ℤ, pos}
-use lib.Signed.{_<ℤ_, _≤ℤ_, clashℤ}
+use lib.IntN.{pos}
+use lib.Signed.{_<ℤ_, clashℤ}
 use lib.Dec.{lit<}
 use mir.ValLaws.{toZ-ofZ}
 use Rattle.geometry.proofs.Bound.{within-fits, here-yes, here-no, fits-zero}

@@ -4,7 +4,7 @@ use Rattle.geometry.proofs.parted.Tie as tie
 use Rattle.geometry.proofs.parted.Reads as reads
 use Rattle.geometry.proofs.parted.Lts as lts
 use Rattle.geometry.proofs.steeper.Reads as steeper-reads
-use lib.IntN.{ℤ, pos}
+use lib.IntN.{pos}
 use lib.Dec.{lit<}
 use Rattle.geometry.proofs.Bound.{here-yes, here-no, fits-zero, within-fits}
 use Rattle.geometry.proofs.Narrowing.{opens-low, opens-up, opens, steeper-yes, steeper-no}

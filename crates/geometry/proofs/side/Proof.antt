@@ -1,6 +1,5 @@
 use borrow.Author.Needs.{needs}
 use mathlib.Core.Path.{_∙_, sym, subst}
-use native.Mathlib.Omega.{arith}
 use lib.IntN.{ℤ}
 use Rattle.geometry.specs.Words.{pointOf}
 use Rattle.geometry.specs.Sides.{Within}

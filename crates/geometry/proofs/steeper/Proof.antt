@@ -1,8 +1,6 @@
 -- `geometry::steeper` meets its contract: a product of two numbers of at most 2^31 fits.
 use lib.Dec.{lit<, lit≤}
-use lib.Signed.{ltZ}
 use mir.ValLaws.{toZ-ofZ}
-use mathlib.Core.Path.{refl}
 use Rattle.geometry.proofs.Bound.{read, within-mul, within-fits}
 use Rattle.geometry.proofs.steeper.Statement.{statement}
 use Rattle.geometry.proofs.steeper.Tie as tie

@@ -1,10 +1,10 @@
 -- `yard::fill8` meets its contract. The loop's invariant: the first i are v, and the rest are as they were.
-use mathlib.Core.Path.{_≡_, refl, ap, _∙_}
-use mathlib.Core.List.{List, _++_}
-use Prim.Native.Nat.{_≤_, _<_, _-_}
+use mathlib.Core.Path.{_≡_, refl}
+use mathlib.Core.List.{_++_}
+use Prim.Native.Nat.{_≤_, _-_}
 use native.Mathlib.Omega.{arith}
 use borrow.Author.Needs.{needs}
-use lib.ListN.{length, drop, set, replicate, length-set}
+use lib.ListN.{length, drop, replicate, length-set}
 use Rattle.yard.proofs.Filled.{fill-next, fill-all}
 use Rattle.yard.proofs.fill8.Statement.{statement}
 use Rattle.yard.proofs.fill8.Tie as tie

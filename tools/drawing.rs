@@ -1,0 +1,265 @@
+//! The page: scale, title, yard, scale bar and key.
+
+use crate::labels::{self, Line, Page};
+use crate::plane::{Box, Point};
+use crate::{Place, Yard};
+use std::fmt::Write;
+
+const ROUTE: &str = "#1f5fa8";
+const NO_WAY: &str = "#b3261e";
+const BLOCK_FILL: &str = "#e9ecef";
+const BLOCK_EDGE: &str = "#5f6b76";
+const INK: &str = "#22272b";
+const FAINT: &str = "#6b747c";
+const SMALL: f64 = 2.6;
+
+/// Two decimals, without zeros at the end.
+fn figure(v: f64) -> String {
+    let text = format!("{v:.2}");
+    let text = text.trim_end_matches('0').trim_end_matches('.');
+    if text == "-0" { "0" } else { text }.to_string()
+}
+
+/// The width of a text in a broad sans-serif font (DejaVu Sans).
+fn width(text: &str, size: f64) -> f64 {
+    let of = |c: char| match c {
+        ' ' | '.' | ':' => 0.32,
+        'r' => 0.41,
+        'm' => 0.97,
+        'w' => 0.82,
+        'c' | 'y' => 0.59,
+        _ => 0.636,
+    };
+    size * text.chars().map(of).sum::<f64>()
+}
+
+fn escaped(text: &str) -> String {
+    let mut out = String::new();
+    for c in text.chars() {
+        match c {
+            '&' => out.push_str("&amp;"),
+            '<' => out.push_str("&lt;"),
+            '>' => out.push_str("&gt;"),
+            c if c.is_control() => out.push('\u{fffd}'),
+            c => out.push(c),
+        }
+    }
+    out
+}
+
+fn metres(cm: u32) -> String {
+    if cm % 100 == 0 {
+        format!("{}", cm / 100)
+    } else {
+        format!("{}.{:02}", cm / 100, cm % 100)
+    }
+}
+
+/// Centimetres on the ground to millimetres on the page.
+struct Frame {
+    wide: f64,
+    tall: f64,
+    area: Box,
+    /// One to how much, in thousandths.
+    scale: u64,
+    west: f64,
+    south: f64,
+    origin: Point,
+}
+
+const MARGIN: f64 = 15.0;
+const HEADER: f64 = 18.0;
+const FOOTER: f64 = 16.0;
+
+impl Frame {
+    fn new(yard: &Yard) -> Frame {
+        let places: Vec<Place> = yard.blocks.iter().flat_map(|b| &b.1).chain(yard.runs.iter().flat_map(|r| &r.places)).copied().collect();
+        // at least 6 cm, with the places in the middle
+        let range = |of: fn(&Place) -> u16| {
+            let low = places.iter().map(of).min().unwrap_or(0) as f64;
+            let high = places.iter().map(of).max().unwrap_or(0) as f64;
+            let far = (high - low).max(6.0);
+            ((low + high - far) / 2.0, far)
+        };
+        let ((west, wide), (south, tall)) = (range(|p| p.0), range(|p| p.1));
+        // the round scale that fits, upright if it is the same lying
+        let fits = |page: (f64, f64), scale: u64| {
+            let by = 10_000.0 / scale as f64;
+            wide * by <= page.0 - 2.0 * MARGIN - 6.0 && tall * by <= page.1 - 2.0 * MARGIN - HEADER - FOOTER - 6.0
+        };
+        let large = [200, 250, 400, 500];
+        let small = (2..6).flat_map(|p| [10, 15, 20, 25, 30, 40, 50, 75].map(|m| m * 10u64.pow(p)));
+        let (scale, page) = large
+            .into_iter()
+            .chain(small)
+            .flat_map(|s| [(s, (210.0, 297.0)), (s, (297.0, 210.0))])
+            .find(|&(s, page)| fits(page, s))
+            .unwrap_or((5_000_000, (210.0, 297.0)));
+        let area = Box { left: MARGIN, top: MARGIN + HEADER, right: page.0 - MARGIN, bottom: page.1 - MARGIN - FOOTER };
+        let by = 10_000.0 / scale as f64;
+        let middle = area.centre();
+        Frame { wide: page.0, tall: page.1, area, scale, west, south, origin: (middle.0 - wide * by / 2.0, middle.1 + tall * by / 2.0) }
+    }
+
+    /// Millimetres on the page for a centimetre.
+    fn by(&self) -> f64 {
+        10_000.0 / self.scale as f64
+    }
+
+    fn point(&self, p: Place) -> Point {
+        (self.origin.0 + (p.0 as f64 - self.west) * self.by(), self.origin.1 - (p.1 as f64 - self.south) * self.by())
+    }
+
+    fn scale_text(&self) -> String {
+        if self.scale >= 1000 {
+            format!("1 : {}", figure(self.scale as f64 / 1000.0))
+        } else {
+            format!("{} : 1", figure(1000.0 / self.scale as f64))
+        }
+    }
+}
+
+struct Svg(String);
+
+impl Svg {
+    fn line(&mut self, text: std::fmt::Arguments) {
+        self.0.write_fmt(text).unwrap();
+        self.0.push('\n');
+    }
+
+    fn text(&mut self, at: Point, class: &str, anchor: &str, text: &str) {
+        let anchor = if anchor == "start" { String::new() } else { format!(" text-anchor=\"{anchor}\"") };
+        self.line(format_args!("<text class=\"{class}\" x=\"{}\" y=\"{}\"{anchor}>{}</text>", figure(at.0), figure(at.1), escaped(text)));
+    }
+
+    fn path(&mut self, class: &str, points: &[Point], closed: bool) {
+        let list: Vec<String> = points.iter().map(|p| format!("{},{}", figure(p.0), figure(p.1))).collect();
+        let tag = if closed { "polygon" } else { "polyline" };
+        self.line(format_args!("<{tag} class=\"{class}\" points=\"{}\"/>", list.join(" ")));
+    }
+
+    fn circle(&mut self, class: &str, at: Point) {
+        self.line(format_args!("<circle class=\"{class}\" cx=\"{}\" cy=\"{}\" r=\"0.8\"/>", figure(at.0), figure(at.1)));
+    }
+}
+
+fn counted(count: usize, word: &str) -> String {
+    match count {
+        0 => format!("no {word}s"),
+        1 => format!("1 {word}"),
+        _ => format!("{count} {word}s"),
+    }
+}
+
+fn head(svg: &mut Svg, frame: &Frame, name: &str, yard: &Yard) {
+    svg.text((MARGIN, MARGIN + 5.0), "title", "start", name);
+    let lost = yard.runs.iter().filter(|r| r.length.is_none()).count();
+    let mut line = format!("{}, {}", counted(yard.blocks.len(), "block"), counted(yard.runs.len(), "run"));
+    if lost > 0 {
+        write!(line, " ({lost} with no way)").unwrap();
+    }
+    write!(line, "; {}", counted(yard.edits, "edit")).unwrap();
+    if yard.refused > 0 {
+        write!(line, ", {} refused", yard.refused).unwrap();
+    }
+    svg.text((MARGIN, MARGIN + 10.0), "note", "start", &line);
+    if let Some(stop) = yard.stop {
+        let why = if stop.number == 9 { "not a yard file of version 1" } else { "no whole record here; the edits before it stand" };
+        svg.text((MARGIN, MARGIN + 14.0), "note lost", "start", &format!("stop {} at {}: {why}", stop.number, stop.at));
+    }
+    let (right, top) = (frame.wide - MARGIN - 3.0, MARGIN);
+    svg.path("north", &[(right, top), (right + 2.2, top + 8.0), (right, top + 6.2), (right - 2.2, top + 8.0)], true);
+    svg.text((right, top + 11.5), "note", "middle", "N");
+}
+
+/// The scale bar, about a quarter of the page long, and the key of the signs.
+fn foot(svg: &mut Svg, frame: &Frame) {
+    let base = frame.tall - MARGIN - 3.0;
+    let lengths = (0..5).flat_map(|p| [1u32, 2, 5].map(|m| m * 10u32.pow(p)));
+    let cm = lengths.filter(|&l| l as f64 * frame.by() <= 55.0).last().unwrap_or(1);
+    let long = cm as f64 * frame.by();
+    let text = if cm >= 100 { format!("{} m", metres(cm)) } else { format!("{cm} cm") };
+    svg.path("bar", &[(MARGIN, base - 1.2), (MARGIN, base), (MARGIN + long, base), (MARGIN + long, base - 1.2)], false);
+    svg.path("bar", &[(MARGIN + long / 2.0, base - 0.8), (MARGIN + long / 2.0, base)], false);
+    svg.text((MARGIN, base - 2.2), "note", "start", "0");
+    svg.text((MARGIN + long, base - 2.2), "note", "middle", &text);
+    svg.text((MARGIN, base + 4.0), "note", "start", &format!("scale {} on A4", frame.scale_text()));
+
+    let left = frame.wide - MARGIN - 78.0;
+    let sign = |k: f64| base - 4.2 + 4.1 * k;
+    svg.path("block", &[(left, sign(0.0) + 1.2), (left + 8.0, sign(0.0) + 1.2), (left + 8.0, sign(0.0) - 1.2), (left, sign(0.0) - 1.2)], true);
+    svg.text((left + 10.5, sign(0.0) + 0.9), "note", "start", "block, with its number");
+    svg.path("route", &[(left, sign(1.0)), (left + 8.0, sign(1.0))], false);
+    svg.circle("end", (left, sign(1.0)));
+    svg.circle("end", (left + 8.0, sign(1.0)));
+    svg.text((left + 10.5, sign(1.0) + 0.9), "note", "start", "run: its shortest route and that route's length");
+    svg.path("route lost", &[(left, sign(2.0)), (left + 8.0, sign(2.0))], false);
+    svg.circle("end lost", (left, sign(2.0)));
+    svg.circle("end lost", (left + 8.0, sign(2.0)));
+    svg.text((left + 10.5, sign(2.0) + 0.9), "note", "start", "run with no way");
+}
+
+pub fn svg(name: &str, yard: &Yard) -> String {
+    let frame = Frame::new(yard);
+    let large = frame.scale >= 20_000;
+    let mut svg = Svg(String::new());
+    let (wide, tall) = (frame.wide, frame.tall);
+    svg.line(format_args!("<svg xmlns=\"http://www.w3.org/2000/svg\" width=\"{wide}mm\" height=\"{tall}mm\" viewBox=\"0 0 {wide} {tall}\">"));
+    svg.line(format_args!("<title>{}</title>", escaped(name)));
+    svg.line(format_args!("<style>"));
+    svg.line(format_args!("text {{ font-family: Helvetica, Arial, 'Liberation Sans', sans-serif; font-size: {SMALL}px; fill: {INK} }}"));
+    svg.line(format_args!(".title {{ font-size: 5px; font-weight: bold }}"));
+    svg.line(format_args!(".note {{ font-size: 2.9px; fill: {FAINT} }}"));
+    svg.line(format_args!(".block {{ fill: {BLOCK_FILL}; fill-opacity: 0.85; stroke: {BLOCK_EDGE}; stroke-width: 0.2; stroke-linejoin: round }}"));
+    svg.line(format_args!(".route {{ fill: none; stroke: {ROUTE}; stroke-width: 0.45; stroke-linejoin: round; stroke-linecap: round }}"));
+    svg.line(format_args!(".end {{ fill: #fff; stroke: {ROUTE}; stroke-width: 0.35 }}"));
+    svg.line(format_args!(".label {{ fill: {ROUTE}; stroke: #fff; stroke-width: 0.8; stroke-linejoin: round; paint-order: stroke }}"));
+    svg.line(format_args!(".number {{ fill: {BLOCK_EDGE}; stroke: {BLOCK_FILL}; stroke-width: 0.5; stroke-linejoin: round; paint-order: stroke }}"));
+    svg.line(format_args!(".route.lost {{ stroke: {NO_WAY}; stroke-dasharray: 1.6 1.3 }}"));
+    svg.line(format_args!(".end.lost {{ stroke: {NO_WAY} }}"));
+    svg.line(format_args!(".label.lost, .note.lost {{ fill: {NO_WAY} }}"));
+    svg.line(format_args!(".bar {{ fill: none; stroke: {INK}; stroke-width: 0.3 }}"));
+    svg.line(format_args!(".north {{ fill: {FAINT} }}"));
+    svg.line(format_args!("</style>"));
+    svg.line(format_args!("<rect width=\"{wide}\" height=\"{tall}\" fill=\"#fff\"/>"));
+    head(&mut svg, &frame, name, yard);
+
+    let blocks: Vec<Vec<Point>> = yard.blocks.iter().map(|b| b.1.iter().map(|&c| frame.point(c)).collect()).collect();
+    let lines: Vec<Vec<Point>> = yard.runs.iter().map(|r| r.places.iter().map(|&p| frame.point(p)).collect()).collect();
+    let texts: Vec<String> = yard
+        .runs
+        .iter()
+        .map(|r| match r.length {
+            None => format!("run {}: no way", r.number),
+            Some(cm) if large => format!("run {}: {}.{:02} m", r.number, cm / 100, cm % 100),
+            Some(cm) => format!("run {}: {cm} cm", r.number),
+        })
+        .collect();
+    let tall_text = 0.78 * SMALL;
+    let page = Page {
+        area: frame.area,
+        blocks: yard.blocks.iter().zip(&blocks).map(|(b, c)| (c.clone(), width(&b.0.to_string(), SMALL), tall_text)).collect(),
+        lines: lines.iter().zip(&texts).map(|(l, t)| Line { points: l.clone(), wide: width(t, SMALL), tall: tall_text }).collect(),
+    };
+    let (numbers, labels) = labels::place(&page);
+
+    blocks.iter().for_each(|b| svg.path("block", b, true));
+    let class = |of: &str, r: &crate::Run| if r.length.is_none() { format!("{of} lost") } else { of.to_string() };
+    for (run, line) in yard.runs.iter().zip(&lines) {
+        svg.path(&class("route", run), line, false);
+    }
+    for (run, line) in yard.runs.iter().zip(&lines) {
+        svg.circle(&class("end", run), line[0]);
+        svg.circle(&class("end", run), line[line.len() - 1]);
+    }
+    let base = |b: &Box| (b.centre().0, b.bottom - 0.02 * SMALL);
+    for ((n, _), b) in yard.blocks.iter().zip(&numbers) {
+        svg.text(base(b), "number", "middle", &n.to_string());
+    }
+    for ((run, text), b) in yard.runs.iter().zip(&texts).zip(&labels) {
+        svg.text(base(b), &class("label", run), "middle", text);
+    }
+    foot(&mut svg, &frame);
+    svg.line(format_args!("</svg>"));
+    svg.0
+}

@@ -1,0 +1,116 @@
+//! Places for the numbers of blocks and the labels of runs, so that they overlap little.
+
+use crate::plane::{along, centre, distance, distance_to, length, Box, Point};
+
+pub struct Line {
+    pub points: Vec<Point>,
+    /// Size of its label.
+    pub wide: f64,
+    pub tall: f64,
+}
+
+pub struct Page {
+    pub area: Box,
+    /// The outlines of the blocks, and the sizes of their numbers.
+    pub blocks: Vec<(Vec<Point>, f64, f64)>,
+    pub lines: Vec<Line>,
+}
+
+const GAP: f64 = 0.9;
+
+/// The cost of a box by what is drawn under it, `own` the line that it belongs to.
+fn drawn_under(page: &Page, b: &Box, own: Option<usize>) -> f64 {
+    let mut cost = 0.0;
+    let near = b.grown(0.8);
+    for (k, line) in page.lines.iter().enumerate() {
+        for w in line.points.windows(2) {
+            cost += if own == Some(k) { 1.2 * b.part_of(w[0], w[1]) } else { 1.4 * b.part_of(w[0], w[1]) + 0.3 * near.part_of(w[0], w[1]) };
+        }
+        for &end in [line.points.first(), line.points.last()].into_iter().flatten() {
+            cost += if Box::around(end, 2.2, 2.2).shared(b) > 0.0 { 8.0 } else { 0.0 };
+        }
+    }
+    for (corners, ..) in &page.blocks {
+        for k in 0..corners.len() {
+            cost += 0.5 * b.part_of(corners[k], corners[(k + 1) % corners.len()]);
+        }
+    }
+    if b.inside(&page.area) {
+        cost
+    } else {
+        cost + 1000.0
+    }
+}
+
+fn label_under(placed: &[Box], b: &Box) -> f64 {
+    let grown = b.grown(0.7);
+    placed.iter().map(|other| grown.shared(other)).filter(|&area| area > 0.0).map(|area| 60.0 + 10.0 * area).sum()
+}
+
+/// The eight boxes that touch a point's surroundings, nearest first.
+fn beside(p: Point, wide: f64, tall: f64, by: f64) -> Vec<Box> {
+    let (east, down) = (wide / 2.0 + by, tall / 2.0 + by);
+    [(0.0, -down), (0.0, down), (east, 0.0), (-east, 0.0), (east, -down), (-east, -down), (east, down), (-east, down)]
+        .iter()
+        .map(|d| Box::around((p.0 + d.0, p.1 + d.1), wide, tall))
+        .collect()
+}
+
+/// The least costly of some boxes; the first of equals.
+fn least(candidates: Vec<(f64, Box)>) -> Option<Box> {
+    candidates.into_iter().reduce(|best, c| if c.0 < best.0 { c } else { best }).map(|c| c.1)
+}
+
+/// In the middle of the block if it is free there, else near it.
+fn place_number(page: &Page, k: usize, placed: &[Box]) -> Option<Box> {
+    let (corners, wide, tall) = &page.blocks[k];
+    let middle = centre(corners);
+    let mut boxes = vec![(0.0, Box::around(middle, *wide, *tall))];
+    for &c in corners {
+        for share in [0.35, 0.6] {
+            let between = (middle.0 + share * (c.0 - middle.0), middle.1 + share * (c.1 - middle.1));
+            boxes.push((1.0 + 0.05 * distance(between, middle), Box::around(between, *wide, *tall)));
+        }
+        boxes.extend(beside(c, *wide, *tall, 0.3).into_iter().map(|b| (9.0 + 0.1 * distance(b.centre(), middle), b)));
+    }
+    least(boxes.into_iter().map(|(far, b)| (far + drawn_under(page, &b, None) + label_under(placed, &b), b)).collect())
+}
+
+/// Near the middle of the line, better where no other line is close.
+fn place_label(page: &Page, k: usize, placed: &[Box]) -> Option<Box> {
+    let line = &page.lines[k];
+    let whole = length(&line.points);
+    let far_from = |p: Point, o: &Line| o.points.windows(2).map(|w| distance_to(p, w[0], w[1])).fold(f64::MAX, f64::min);
+    let nearest = |p: Point| page.lines.iter().enumerate().filter(|&(o, _)| o != k).map(|(_, o)| far_from(p, o)).fold(f64::MAX, f64::min);
+    let steps = (whole / 1.5).ceil().clamp(2.0, 200.0) as usize;
+    let mut candidates = vec![];
+    for s in 0..=steps {
+        let far = whole * s as f64 / steps as f64;
+        let (p, direction) = along(&line.points, far);
+        let base = 0.08 * (far - whole / 2.0).abs() + 1.5 * (3.0 - nearest(p)).max(0.0);
+        // on the line, and on both sides just clear of it
+        let off = (line.wide * direction.1.abs() + line.tall * direction.0.abs()) / 2.0 + GAP;
+        for by in [0.0, off, -off] {
+            candidates.push((base, Box::around((p.0 + by * direction.1, p.1 - by * direction.0), line.wide, line.tall)));
+        }
+        candidates.extend(beside(p, line.wide, line.tall, 1.3).into_iter().map(|b| (base + 0.5, b)));
+    }
+    // nearer to its own line than to another
+    let doubt = |b: &Box| 0.6 * (far_from(b.centre(), line) + 2.0 - nearest(b.centre())).max(0.0);
+    least(candidates.into_iter().map(|(base, b)| (base + doubt(&b) + drawn_under(page, &b, Some(k)) + label_under(placed, &b), b)).collect())
+}
+
+/// The boxes of the numbers, then those of the labels.
+pub fn place(page: &Page) -> (Vec<Box>, Vec<Box>) {
+    let numbers = page.blocks.len();
+    let all = numbers + page.lines.len();
+    let mut placed: Vec<Option<Box>> = vec![None; all];
+    for _ in 0..4 {
+        for k in 0..all {
+            let others: Vec<Box> = (0..all).filter(|&o| o != k).filter_map(|o| placed[o]).collect();
+            placed[k] = if k < numbers { place_number(page, k, &others) } else { place_label(page, k - numbers, &others) };
+        }
+    }
+    let labels = placed.split_off(numbers).into_iter().flatten().collect();
+    (placed.into_iter().flatten().collect(), labels)
+}
