@@ -38,14 +38,9 @@ root-at n w lo hi = root-one n (rootUp n) (suc w) (root-is n) (record { enough =
     above v h (no p) = omega arith
 
 -- a coordinate of the yard is at most 32,767, so that no segment is longer than 46,340
-gap-bound : (a b : ℕ) → a ≤ 32767 → b ≤ 32767 → gap a b ≤ 32767
-gap-bound a b h k = omega arith
-
 pub length-bound : (p q : Point) → Near p → Near q → lengthOf p q ≤ 46340
 unfolding lengthOf
 length-bound p q a b =
-    let e = gap-bound (p .east) (q .east) (a .east) (b .east) in
-    let n = gap-bound (p .north) (q .north) (a .north) (b .north) in
-    let e² : gap (p .east) (q .east) * gap (p .east) (q .east) ≤ 32767 * 32767 = mul-le-mul e e in
-    let n² : gap (p .north) (q .north) * gap (p .north) (q .north) ≤ 32767 * 32767 = mul-le-mul n n in
-    root-is _ .least 46340 (omega arith)
+    let e : gap (p .east) (q .east) ≤ 32767 = omega (arith, a .east, b .east) in
+    let n : gap (p .north) (q .north) ≤ 32767 = omega (arith, a .north, b .north) in
+    root-is _ .least 46340 (omega (arith, mul-le-mul e e, mul-le-mul n n))

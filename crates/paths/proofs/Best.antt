@@ -1,5 +1,4 @@
 -- Where edges and inner vertices can be decided and are finitely many, there is a route or there is no chain.
--- Assumes nothing.
 use mathlib.Core.Path.{_≡_, refl, ap, subst}
 use mathlib.Core.Logic.{_⊎_, inl, inr, ⊎-elim}
 use mathlib.Core.List.{List, [], _∷_}

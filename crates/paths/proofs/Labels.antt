@@ -1,5 +1,4 @@
 -- Labels of vertices, by which a search backwards from the end that may stop early finds the route.
--- Assumes nothing.
 use mathlib.Core.Path.{_≡_, refl, sym, ap, _∙_, subst}
 use mathlib.Core.Logic.{_⊎_, inl, inr, ⊎-elim}
 use mathlib.Core.List.{List, [], _∷_}

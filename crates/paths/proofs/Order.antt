@@ -1,5 +1,4 @@
 -- The fixed rule orders chains totally, so a graph has at most one route.
--- Assumes nothing.
 use mathlib.Core.Path.{_≡_, refl, ap}
 use mathlib.Core.Logic.{_⊎_, inl, inr}
 use mathlib.Core.List.{List, [], _∷_}

@@ -1,5 +1,4 @@
 -- A route passes no vertex twice, so it has at most two vertices more than there are inner ones.
--- Assumes nothing.
 use mathlib.Core.Path.{_≡_, refl, sym, ap, _∙_}
 use mathlib.Core.Logic.{_≢_}
 use mathlib.Core.List.{List, [], _∷_}

@@ -1,5 +1,4 @@
 -- A route fits its record, and there is a record for every run.
--- Assumes nothing.
 use mathlib.Core.Path.{_≡_, refl}
 use mathlib.Core.Logic.{_⊎_, inl, inr}
 use mathlib.Core.Bool.{true, Bool-discrete}

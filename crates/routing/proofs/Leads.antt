@@ -1,5 +1,4 @@
 -- The shadows of a straight are no longer than it is, so that they lead a search.
--- Assumes nothing.
 use mathlib.Core.Path.{_≡_, refl, sym, ap, _∙_}
 use mathlib.Core.List.{List}
 use Prim.Native.Nat.{ℕ, _+_, _*_, _-_, _/_, _≤_, _<_, max, min}

@@ -1,5 +1,4 @@
 -- The invariant of the loop that settles marks: how it begins, that a turn keeps it, and what it gives where the loop ends.
--- Assumes nothing.
 use mathlib.Core.Path.{_≡_, refl, sym, ap, _∙_, subst}
 use mathlib.Core.Logic.{_⊎_, inl, inr, ⊎-elim}
 use mathlib.Core.Bool.{true, false}

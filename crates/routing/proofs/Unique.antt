@@ -1,5 +1,4 @@
 -- The rule for a route record leaves no choice of its words.
--- Assumes nothing.
 use mathlib.Core.Path.{_≡_, refl, ap}
 use mathlib.Core.List.{List}
 use Prim.Native.Nat.{ℕ}

@@ -22,7 +22,7 @@ fn clear(part: &mut [u32])
 }
 
 // Lists the corners of the present blocks, and answers how many there are.
-fn open_corners(blocks: &[u16], waiting: &mut [usize]) -> usize
+fn open_corners(blocks: &[u16], waiting: &mut [u16]) -> usize
     requires { ⌜ (length (now blocks) ≡ 408) × (length (now waiting) ≡ 194) ⌝ }
     ensures { λ n. ⌜ Corners (now (blocks .entry)) (now (waiting .exit)) 192 n ⌝ }
 {
@@ -30,7 +30,7 @@ fn open_corners(blocks: &[u16], waiting: &mut [usize]) -> usize
     let mut i = 0;
     while i < 192 {
         if tables::is_corner(blocks, i) {
-            waiting[n] = i;
+            waiting[n] = i as u16;
             n += 1;
         }
         i += 1;
@@ -68,7 +68,7 @@ fn at_least(a: Place, b: Place) -> u32
 fn look_ahead(
     blocks: &[u16],
     runs: &[u16],
-    waiting: &[usize],
+    waiting: &[u16],
     n: usize,
     first: usize,
     far: &mut [u32],
@@ -80,7 +80,7 @@ fn look_ahead(
     let to = tables::place_of(blocks, runs, first);
     let mut j = 0;
     while j < n {
-        let v = waiting[j];
+        let v = waiting[j] as usize;
         far[v] = at_least(to, tables::place_of(blocks, runs, v));
         j += 1;
     }
@@ -122,7 +122,7 @@ fn relax(
     runs: &[u16],
     pairs: &[u8],
     far: &[u32],
-    waiting: &[usize],
+    waiting: &[u16],
     n: usize,
     key: &mut [u32],
     s: usize,
@@ -138,7 +138,7 @@ fn relax(
     let mut low: u32 = 4000000000;
     let mut j = 0;
     while j < n {
-        let v = waiting[j];
+        let v = waiting[j] as usize;
         let old = key[v];
         let new = improved(blocks, runs, pairs, v, s, at, ks, old);
         key[v] = new;
@@ -160,9 +160,9 @@ fn settle(blocks: &[u16], runs: &[u16], pairs: &[u8], m: usize, key: &mut [u32])
 {
     let first = 192 + 2 * m;
     let second = 193 + 2 * m;
-    let mut waiting = [0usize; 194];
+    let mut waiting = [0u16; 194];
     let corners = open_corners(blocks, &mut waiting);
-    waiting[corners] = first;
+    waiting[corners] = first as u16;
     let mut n = corners + 1;
     let mut far = [0u32; 240];
     look_ahead(blocks, runs, &waiting, n, first, &mut far);
@@ -172,7 +172,7 @@ fn settle(blocks: &[u16], runs: &[u16], pairs: &[u8], m: usize, key: &mut [u32])
         if at >= n {
             return false;
         }
-        let s = waiting[at];
+        let s = waiting[at] as usize;
         if s == first {
             return true;
         }

@@ -1,4 +1,4 @@
--- `routing::all_routes` meets its contract. The loop keeps: the records below m are written. Assumes nothing.
+-- `routing::all_routes` meets its contract. The loop keeps: the records below m are written.
 use mathlib.Core.Path.{sym, _∙_}
 use Prim.Native.Nat.{_-_, _<_, _≤_}
 use native.Mathlib.Omega.{arith}

@@ -1,4 +1,4 @@
--- `routing::at_least` meets its contract. Assumes nothing.
+-- `routing::at_least` meets its contract.
 use Rattle.routing.proofs.Leads.{at-least-is}
 use borrow.Author.Needs.{needs}
 use Rattle.routing.proofs.at_least.Statement.{statement}

@@ -1,4 +1,4 @@
--- `routing::clear` meets its contract. The loop keeps: the first k words are 0. Assumes nothing.
+-- `routing::clear` meets its contract. The loop keeps: the first k words are 0.
 use mathlib.Core.Path.{_≡_, refl}
 use Prim.Native.Nat.{ℕ, _-_, _<_, _≤_}
 use native.Mathlib.Omega.{arith}

@@ -1,4 +1,4 @@
--- `routing::improved` meets its contract. Each return is one law of Steps. Assumes nothing.
+-- `routing::improved` meets its contract. Each return is one law of Steps.
 use native.Mathlib.Nat.{mul-le-mul}
 use Rattle.geometry.specs.Length.{rootUp}
 use Rattle.routing.specs.Routes.{cost}

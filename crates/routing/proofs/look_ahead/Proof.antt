@@ -1,4 +1,4 @@
--- `routing::look_ahead` meets its contract. The loop keeps: the first j of the list are looked at. Assumes nothing.
+-- `routing::look_ahead` meets its contract. The loop keeps: the first j of the list are looked at.
 use mathlib.Core.Path.{_≡_, sym, _∙_}
 use Prim.Native.Nat.{_-_, _≤_}
 use native.Mathlib.Omega.{arith}
@@ -27,6 +27,10 @@ mul-v c = search needs
 
 shared-slice-read-v : tie.Need-shared-slice-read-v Inv-loop μ-loop
 shared-slice-read-v c = search needs
+
+cast-v : tie.Need-cast-v Inv-loop μ-loop
+cast-v c =
+    omega (arith, c .before .before .before .before .before .before .before .before .pre .1 .0 .marks (c .before .before .loop .j) (c .before .loop-test .taken))
 
 place-of-requires-2 : tie.Need-place-of-requires-2 Inv-loop μ-loop
 place-of-requires-2 c κs =
@@ -71,6 +75,7 @@ look-ahead-spec =
     loop-holds
     mul-v
     shared-slice-read-v
+    cast-v
     place-of-requires-2
     at-least-requires
     mul-far

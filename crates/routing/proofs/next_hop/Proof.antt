@@ -1,4 +1,4 @@
--- `routing::next_hop` meets its contract. The loop keeps: no mark below u will do. Assumes nothing.
+-- `routing::next_hop` meets its contract. The loop keeps: no mark below u will do.
 use mathlib.Core.Logic.{inl, inr}
 use mathlib.Core.Path.{refl, ap}
 use Prim.Native.Nat.{ℕ, _-_, _<_, _≤_}

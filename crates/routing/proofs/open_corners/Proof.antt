@@ -1,4 +1,4 @@
--- `routing::open_corners` meets its contract. The loop keeps: the first n of the list are the corners below i. Assumes nothing.
+-- `routing::open_corners` meets its contract. The loop keeps: the first n of the list are the corners below i.
 use mathlib.Core.Path.{_≡_, sym, _∙_}
 use mathlib.Core.Logic.{⊎-elim}
 use Prim.Native.Nat.{_-_, _<_, _≤_}
@@ -20,6 +20,9 @@ loop-holds c = (omega arith, corners-none _ _ (c .before .before .pre .1))
 
 is-corner-requires : tie.Need-is-corner-requires Inv-loop μ-loop
 is-corner-requires c κs = search needs
+
+cast-waiting : tie.Need-cast-waiting Inv-loop μ-loop
+cast-waiting c = search needs
 
 mul-waiting : tie.Need-mul-waiting Inv-loop μ-loop
 mul-waiting c = search needs
@@ -61,6 +64,7 @@ open-corners-spec =
     μ-loop
     loop-holds
     is-corner-requires
+    cast-waiting
     mul-waiting
     slice-write-waiting
     add-n

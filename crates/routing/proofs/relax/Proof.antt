@@ -1,4 +1,4 @@
--- `routing::relax` meets its contract. The loop keeps: the first j of the list are relaxed, and `best` is the place of the least key with what is ahead among them. Assumes nothing.
+-- `routing::relax` meets its contract. The loop keeps: the first j of the list are relaxed, and `best` is the place of the least key with what is ahead among them.
 use mathlib.Core.Path.{_≡_, refl}
 use mathlib.Core.Logic.{⊎-elim}
 use Prim.Native.Nat.{_-_, _≤_}
@@ -29,6 +29,10 @@ mul-v c = search needs
 
 shared-slice-read-v : tie.Need-shared-slice-read-v Inv-loop μ-loop
 shared-slice-read-v c = search needs
+
+cast-v : tie.Need-cast-v Inv-loop μ-loop
+cast-v c =
+    omega (arith, c .before .before .before .before .before .before .before .before .before .before .pre .1 .list .marks (c .before .before .loop .j) (c .before .loop-test .taken))
 
 mul-old : tie.Need-mul-old Inv-loop μ-loop
 mul-old c =
@@ -113,6 +117,7 @@ relax-spec =
     loop-holds
     mul-v
     shared-slice-read-v
+    cast-v
     mul-old
     slice-read-old
     improved-requires

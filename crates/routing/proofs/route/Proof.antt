@@ -1,4 +1,4 @@
--- `routing::route` meets its contract. Each return is one case of `RouteIs`. Assumes nothing.
+-- `routing::route` meets its contract. Each return is one case of `RouteIs`.
 use native.Mathlib.Omega.{arith}
 use lib.ListN.{length-set}
 use Rattle.routing.specs.Keys.{unreached}

@@ -1,4 +1,4 @@
--- `routing::settle` meets its contract. The loop keeps `Inv`, and `at` is the place of the least key with what is ahead; n, the number of waiting marks, falls. Assumes nothing.
+-- `routing::settle` meets its contract. The loop keeps `Inv`, and `at` is the place of the least key with what is ahead; n, the number of waiting marks, falls.
 use mathlib.Core.Path.{sym, _∙_}
 use native.Mathlib.Omega.{arith}
 use Rattle.tables.specs.Tables.{stored, firstEnd, secondEnd}
@@ -34,6 +34,9 @@ slice-aggregate-open-corners c = search needs
 
 open-corners-requires : tie.Need-open-corners-requires Inv-loop μ-loop
 open-corners-requires c κs = search needs
+
+cast-waiting : tie.Need-cast-waiting Inv-loop μ-loop
+cast-waiting c = search needs
 
 mul-waiting : tie.Need-mul-waiting Inv-loop μ-loop
 mul-waiting c = omega (arith, c .before .open-corners .ensures .few)
@@ -92,6 +95,12 @@ mul-s c = omega (arith, c .before .loop .inv .0 .listed, c .before .loop .inv .0
 
 array-read-s : tie.Need-array-read-s Inv-loop μ-loop
 array-read-s c = omega (arith, c .before .loop .inv .0 .listed, c .before .loop .inv .0 .few)
+
+cast-s : tie.Need-cast-s Inv-loop μ-loop
+cast-s c =
+    let s = c .before .before .before .before .before .before .before .before .before .before .before .before .before .before .before .before .before .before .before in
+    let z = sized (stored (s .args .blocks .now) (s .args .runs .now)) (s .args .pairs .now) (s .args .m) (s .pre .0 .fit) (s .pre .1 .0) in
+    omega (arith, marks _ _ _ _ _ z _ _ _ (c .before .loop .inv .0) _ (c .if1 .left))
 
 same-length-2 : tie.Need-same-length-2 Inv-loop μ-loop
 same-length-2 c =
@@ -163,6 +172,7 @@ settle-spec =
     add-second
     slice-aggregate-open-corners
     open-corners-requires
+    cast-waiting
     mul-waiting
     array-write-waiting
     add-n
@@ -179,6 +189,7 @@ settle-spec =
     returns
     mul-s
     array-read-s
+    cast-s
     same-length-2
     returns-2
     sub-n

@@ -1,4 +1,4 @@
--- `routing::shadow` meets its contract. Assumes nothing.
+-- `routing::shadow` meets its contract.
 use Rattle.routing.proofs.Leads.{shadow-is}
 use borrow.Author.Needs.{needs}
 use Rattle.routing.proofs.shadow.Statement.{statement}

@@ -1,4 +1,4 @@
--- `routing::walk` meets its contract. The loop keeps: the marks so far begin the walk from the first end. The key of v falls. Assumes nothing.
+-- `routing::walk` meets its contract. The loop keeps: the marks so far begin the walk from the first end. The key of v falls.
 use mathlib.Core.Path.{_≡_, sym, _∙_}
 use native.Mathlib.Omega.{arith}
 use lib.ListN.{length, length-set}
