@@ -293,6 +293,22 @@ fn main() {
             let g = Grid { runs: runs.parse().expect("a count of runs"), ..*g };
             drag(p, &g, &mut g.tables(), &displacements(steps.parse().expect("a count of steps")));
         }
+        // for callgrind: all routes of the drag yard where every pair's byte says clear, by a move of a run to its own ends
+        ["clear", steps] => {
+            let mut t = FULL.tables();
+            for _ in 0..steps.parse().expect("a count of steps") {
+                t.pairs.fill(254);
+                let e: [u16; 4] = t.runs[116..120].try_into().expect("a run's ends");
+                // The four tables are apart, live for the call, and as long as stated.
+                let answer = unsafe {
+                    abi::yard_move_run(
+                        t.blocks.as_mut_ptr(), BLOCKS, t.runs.as_mut_ptr(), RUNS, t.pairs.as_mut_ptr(), PAIRS,
+                        t.routes.as_mut_ptr(), ROUTES, 23, e[0], e[1], e[2], e[3],
+                    )
+                };
+                assert_eq!(answer, 0);
+            }
+        }
         _ => panic!("bench: wrong words {words:?}"),
     }
 }

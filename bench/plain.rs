@@ -159,10 +159,27 @@ fn run_allowed(words: &[u16]) -> bool {
     words.iter().all(|&w| w == 0) || (words[0] == 1 && words[1..].iter().all(|&w| w <= 32767))
 }
 
-const NONE: u32 = u32::MAX;
+/// The key of a mark that no chain is known from. Keys of chains are less, and a key with what is ahead still fits.
+const NONE: u32 = 4_000_000_000;
 
 /// For each mark 256 x length + straights of the best chain from it to the second end, as far as known.
 type Keys = [u32; 240];
+
+/// For each waiting mark 256 x how far it is from the first end at least.
+type Far = [u32; 240];
+
+/// 256 x the longest shadow of a straight in five directions, or a little less, by its larger and smaller difference.
+fn shadow(hi: u32, lo: u32) -> u32 {
+    let flat = (256 * hi).max(250 * hi + 55 * lo).max(236 * hi + 99 * lo);
+    flat.max(213 * hi + 142 * lo).max(181 * hi + 181 * lo)
+}
+
+/// 256 x a whole number that the straight from a to b is at least as long as, without a root.
+fn at_least(a: Place, b: Place) -> u32 {
+    let east = a.0.abs_diff(b.0) as u32;
+    let north = a.1.abs_diff(b.1) as u32;
+    256 * (shadow(east.max(north), east.min(north)) / 256)
+}
 
 impl Yard<'_> {
     fn question_1(&self) -> bool {
@@ -400,7 +417,7 @@ impl Yard<'_> {
         }
     }
 
-    /// Backwards from the second end until the first is settled.
+    /// Backwards from the second end, directed towards the first, until that is the mark picked or none is reached.
     fn settle(&self, m: usize) -> Keys {
         let (first, second) = (192 + 2 * m, 193 + 2 * m);
         let mut keys = [NONE; 240];
@@ -410,41 +427,59 @@ impl Yard<'_> {
             waiting[count] = v;
             count += 1;
         }
+        let far = self.look_ahead(&waiting[..count], first);
         keys[second] = 0;
-        self.relax(&mut keys, &waiting[..count], second);
-        loop {
-            let mut least = NONE;
-            let mut at = count;
-            for (k, &v) in waiting[..count].iter().enumerate() {
-                if keys[v] < least {
-                    least = keys[v];
-                    at = k;
-                }
-            }
-            if at == count || waiting[at] == first {
-                return keys;
-            }
+        let mut picked = self.relax(&mut keys, &far, &waiting[..count], second);
+        while let Some(at) = picked {
             let s = waiting[at];
+            if s == first {
+                break;
+            }
             count -= 1;
             waiting[at] = waiting[count];
-            self.relax(&mut keys, &waiting[..count], s);
+            picked = self.relax(&mut keys, &far, &waiting[..count], s);
         }
+        keys
     }
 
-    /// Improve the waiting marks by the straight to s. A root is asked for only where the squares show an improvement.
-    fn relax(&self, keys: &mut Keys, waiting: &[usize], s: usize) {
+    fn look_ahead(&self, waiting: &[usize], first: usize) -> Far {
+        let to = place(self.blocks, self.runs, first);
+        let mut far = [0; 240];
+        for &v in waiting {
+            far[v] = at_least(to, place(self.blocks, self.runs, v));
+        }
+        far
+    }
+
+    /// Improve the waiting marks by the straight to s, and in the same pass pick the one with the least key + far,
+    /// if any is reached.
+    fn relax(&self, keys: &mut Keys, far: &Far, waiting: &[usize], s: usize) -> Option<usize> {
         let from = place(self.blocks, self.runs, s);
         let key = keys[s];
-        for &v in waiting {
-            if keys[v] < key + 2 || !self.clear(v, s) {
-                continue;
-            }
-            let longest = ((keys[v] - key - 2) / 256) as u64;
-            let square = squares(place(self.blocks, self.runs, v), from);
-            if square as u64 <= longest * longest {
-                keys[v] = key + 256 * root_up(square) + 1;
+        let mut picked = None;
+        let mut least = NONE;
+        for (k, &v) in waiting.iter().enumerate() {
+            keys[v] = self.improved(v, s, from, key, keys[v]);
+            let whole = keys[v] + far[v];
+            if whole < least {
+                least = whole;
+                picked = Some(k);
             }
         }
+        picked
+    }
+
+    /// The key of v, so far old, once s is settled. A root is asked for only where the squares show an improvement.
+    fn improved(&self, v: usize, s: usize, from: Place, key: u32, old: u32) -> u32 {
+        if old < key + 2 || !self.clear(v, s) {
+            return old;
+        }
+        let longest = ((old - key - 2) / 256) as u64;
+        let square = squares(place(self.blocks, self.runs, v), from);
+        if square as u64 > longest * longest {
+            return old;
+        }
+        key + 256 * root_up(square) + 1
     }
 
     /// Forwards from the first end, always to the lowest mark on a best chain.

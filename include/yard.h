@@ -4,8 +4,8 @@
  * The caller owns four tables and lends them to every call, each as a pointer and a length in elements. The lengths
  * must be exactly those below. The tables must not overlap, and must be aligned for their element type. Together they
  * take 48,648 bytes. A call keeps nothing: there is no hidden state, no heap and no I/O. Calls on different tables may
- * run at the same time; calls on the same tables must not, except yard_check beside yard_check. A call uses less than
- * 8 KiB of stack.
+ * run at the same time; calls on the same tables must not, except yard_check beside yard_check. A call uses about 4 KiB
+ * of stack (3,944 bytes at most where it was measured, on x86-64): reserve 8 KiB.
  *
  * East is the first coordinate, north the second, from 0 to 32,767; lengths are in centimetres.
  *
