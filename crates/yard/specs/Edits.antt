@@ -58,7 +58,7 @@ Edited (theRun m) T ps T′ = RunEdited T m ps T′
 -- the whole contract of a call of an edit: its number, and every table
 pub record Called (e : Edit) (T : Tables) (r : ℕ) (T′ : Tables) : Type 0 where
   pub answer : r ≡ answerOver T e
-  pub refused : (r ≡ 0 → ⊥) → T′ ≡ T
+  pub refused : (r ≡ 0 → ⊥) → T′ ≡ T  -- an edit that says no writes nothing
   pub done : r ≡ 0 → Edited (target e) T (written (bookOf (records T)) e) T′
 
 -- the empty yard
