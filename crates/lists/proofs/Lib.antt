@@ -1,0 +1,5 @@
+pub mod Every
+pub mod Below
+pub mod Telling
+pub mod Fills
+pub mod Copies
