@@ -10,10 +10,10 @@ use lib.Dec.{T, lit<}
 use lib.Signed.{mag, ltZ, _<ℤ_, _≤ℤ_, ltZ-yes, ltZ-no}
 use mir.Val.{SFits, toZ, ofZ}
 use mir.ValLaws.{toZ-ofZ}
-use Rattle.geometry.specs.Sides.{Within}
+use Rattle.geometry.specs.inner.Sides.{Within}
 use Rattle.geometry.proofs.Signed.{_⊖_, ⊖-ind, sub-is}
 
-abs-neg : (z : ℤ) → natAbs (negℤ z) ≡ natAbs z
+pub abs-neg : (z : ℤ) → natAbs (negℤ z) ≡ natAbs z
 abs-neg (pos zero) = refl
 abs-neg (pos (suc n)) = refl
 abs-neg (negsuc n) = refl
@@ -35,6 +35,9 @@ abs-* (negsuc a) (negsuc b) = refl
 
 pub within-pos : {k n : ℕ} → n ≤ k → Within k (pos n)
 within-pos h = record { within = h }
+
+pub within-more : {j k : ℕ} {z : ℤ} → Within j z → j ≤ k → Within k z
+within-more f h = record { within = omega (arith, f .within) }
 
 pub within-sub : {j k : ℕ} {x y : ℤ} (i : ℕ) → Within j x → Within k y → j + k ≤ i → Within i (x -ℤ y)
 within-sub {j} {k} {x} {y} i f g h = record { within = omega (arith, abs-+ x (negℤ y), abs-neg y, f .within, g .within) }

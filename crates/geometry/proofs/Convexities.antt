@@ -9,7 +9,8 @@ use lib.Signed.{ltZ}
 use borrow.Author.Tests.{eq-eqb, ne-eqb}
 use Rattle.geometry.specs.Words.{Point, word, corners}
 use Rattle.geometry.specs.Obstruction.{cornerAt, nextCorner, sideTurn}
-use Rattle.geometry.specs.Convexity.{allBelow, sideTest, convex}
+use Rattle.geometry.specs.Convexity.{sideTest, convex}
+use Rattle.lists.specs.Lists.{allBelow}
 use Rattle.geometry.proofs.Corners.{places-length}
 
 pub side-same : (ps : List Point) (k l : ℕ) → l ≡ k → true ≡ sideTest ps k l

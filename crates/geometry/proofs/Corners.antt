@@ -1,15 +1,16 @@
 -- The corners of a record by its words, and how large a turn against its sides can be.
 use mathlib.Core.Path.{_≡_, refl, sym, ap, _∙_}
-use mathlib.Core.List.{List}
+use mathlib.Core.List.{List, [], _∷_, map}
 use Prim.Native.Nat.{ℕ, zero, suc, _+_, _*_, _%_, _<_}
 use native.Mathlib.Nat.{one-mul, mod-lt}
 use native.Mathlib.Omega.{arith}
 use lib.Dec.{lit≤}
 use lib.IntN.{ℤ, pos, _-ℤ_, _*ℤ_}
 use lib.ListN.{length}
-use Rattle.geometry.specs.Words.{Point, point, word, placeAt, placesFrom, corners, BoundedRecord, Near}
+use Rattle.geometry.specs.Words.{Point, point, word, placeAt, placesFrom, corners}
+use Rattle.geometry.specs.inner.Bounds.{BoundedRecord, InRange}
 use Rattle.geometry.specs.Obstruction.{cornerAt, nextCorner, turn, sideTurn}
-use Rattle.geometry.specs.Sides.{Within}
+use Rattle.geometry.specs.inner.Sides.{Within}
 use Rattle.geometry.proofs.Bound.{within-gap, within-mul, within-sub}
 
 pub places-length : (t : List ℕ) (i c : ℕ) → length (placesFrom t i c) ≡ c
@@ -29,6 +30,11 @@ corner-is ws k h =
     let f : 2 * k + 1 + 1 ≡ 2 * k + 2 = omega arith in
     place-is ws 1 (word ws 0) k h ∙ ap (placeAt ws) e ∙ ap (λ (j : ℕ). point (word ws (2 * k + 1)) (word ws j)) f
 
+pub corner-map : (f : Point → Point) (ps : List Point) (k : ℕ) → k < length ps → cornerAt (map f ps) k ≡ f (cornerAt ps k)
+corner-map f [] k h = absurd (omega arith)
+corner-map f (p ∷ ps) zero h = refl
+corner-map f (p ∷ ps) (suc k) h = corner-map f ps k (omega arith)
+
 -- a corner that the code read
 pub corner-read : (ws : List ℕ) (p : Point) (k : ℕ) → k < word ws 0 → p .east ≡ word ws (2 * k + 1) → p .north ≡ word ws (2 * k + 2) → p ≡ cornerAt (corners ws) k
 corner-read ws p k h e n = (λ i. point (e i) (n i)) ∙ sym (corner-is ws k h)
@@ -39,7 +45,7 @@ pub turn-one : (p q : Point) (e n : ℤ) → turn p q 1 e n
 unfolding turn
 turn-one p q e n = rw (one-mul (p .north), one-mul (p .east))
 
-pub turn-small : (p q x : Point) → Near p → Near q → Near x → Within 2147483648 (turn p q 1 (pos (x .east)) (pos (x .north)))
+pub turn-small : (p q x : Point) → InRange p → InRange q → InRange x → Within 2147483648 (turn p q 1 (pos (x .east)) (pos (x .north)))
 turn-small p q x a b c =
     rw (turn-one p q (pos (x .east)) (pos (x .north)))
     (within-sub 2147483648
@@ -48,17 +54,17 @@ turn-small p q x a b c =
     (lit≤ tt))
 
 module _ (ws : List ℕ) (b : BoundedRecord ws) where
-  pub corner-near : (k : ℕ) → k < word ws 0 → Near (cornerAt (corners ws) k)
-  corner-near k h =
+  pub corner-in-range : (k : ℕ) → k < word ws 0 → InRange (cornerAt (corners ws) k)
+  corner-in-range k h =
       let c = b .count in
       rw (corner-is ws k h) (record { east = b .coordinates (2 * k + 1) (omega arith); north = b .coordinates (2 * k + 2) (omega arith) })
 
   pub next-below : (k : ℕ) → k < word ws 0 → nextCorner (corners ws) k < word ws 0
   next-below k h = rw (places-length ws 1 (word ws 0)) (mod-lt (k + 1) (omega arith))
 
-  pub side-small : (x : Point) (k : ℕ) → Near x → k < word ws 0 → Within 2147483648 (sideTurn (corners ws) x k)
+  pub side-small : (x : Point) (k : ℕ) → InRange x → k < word ws 0 → Within 2147483648 (sideTurn (corners ws) x k)
   unfolding sideTurn
-  side-small x k n h = turn-small _ _ x (corner-near k h) (corner-near (nextCorner (corners ws) k) (next-below k h)) n
+  side-small x k n h = turn-small _ _ x (corner-in-range k h) (corner-in-range (nextCorner (corners ws) k) (next-below k h)) n
 
 -- the turn that the code works out from two corners that it read
 pub side-is : (ws : List ℕ) (p q x : Point) (k j : ℕ) → k < word ws 0 → j < word ws 0 → j ≡ (k + 1) % word ws 0

@@ -4,10 +4,8 @@ pub mod Sides
 pub mod Turns
 pub mod Bound
 pub mod Narrowing
-pub mod Roots
 pub mod Corners
 pub mod Obstructing
-pub mod Squares
 pub mod Searching
-pub mod Below
 pub mod Convexities
+pub mod Translations

@@ -1,20 +1,21 @@
 -- One side more.
-use mathlib.Core.Path.{_≡_, refl, _∙_, subst}
+use mathlib.Core.Path.{_≡_, refl, _∙_}
 use mathlib.Core.Bool.{Bool, true, false}
-use mathlib.Core.Logic.{inl, inr}
+use mathlib.Core.Logic.{_⊎_, inl, inr, ⊎-elim}
 use lib.IntN.{ℤ, pos, _*ℤ_}
 use lib.Signed.{_<ℤ_, _≤ℤ_, ltZ, clashℤ}
 use mir.Syntax.{w64}
 use mir.Val.{SFits, toZ, ofZ}
 use mir.ValLaws.{toZ-ofZ}
-use Rattle.geometry.proofs.Signed.{lt-le}
-use Rattle.geometry.specs.Sides.{Within, Small, Narrowed, Opens, Either}
+use Rattle.geometry.proofs.Signed.{below-or-not, lt-le}
+use Rattle.geometry.specs.inner.Sides.{Within, Small, Narrowed, Meets}
 use Rattle.geometry.proofs.Bound.{test-yes, test-no}
-use lib.Dec.{T}
-use Rattle.geometry.proofs.Sides.{end-low, end-up, end-if, end-only, span-both, span-low, span-low-keep, span-up, span-up-keep}
+use Rattle.lists.specs.inner.Tells.{Tells}
+use Rattle.geometry.proofs.Weights.{meet-only, meet-if}
+use Rattle.geometry.proofs.Sides.{span-both, span-low, span-low-keep, span-up, span-up-keep}
 
 -- by the tests
-module _ (l r p q x y : ℤ) (n : Small l r p q) (wx : Within 2147483648 x) (wy : Within 2147483648 y) where
+module _ (l r p q x y : ℤ) (n : Small l r p q) (wx : Within 2200000000 x) (wy : Within 2200000000 y) where
   pub step-both : pos 0 <ℤ x → pos 0 <ℤ y → Narrowed l r p q x y l r p q
   step-both x₀ y₀ = record { small = n; span = λ m f g e i h. span-both m f g h (rw e x₀) (rw i y₀) }
 
@@ -51,24 +52,23 @@ module _ (x y l r : ℤ) (fx : SFits w64 x) (fy : SFits w64 y) (fl : SFits w64 l
   steeper-no h = test-no _ _ h plain
 
 -- ---- what the two say at the end
-never : {X : Type 0} → true ≡ false → X
-never e = absurd (subst T e tt)
-
-pub opens-low : (l r p q : ℤ) → pos 0 <ℤ l → Opens l r p q true
-opens-low l r p q l₀ = record { yes′ = λ e m f g s. end-low m f g s l₀; no′ = λ e. never e }
-
-pub opens-up : (l r p q : ℤ) → pos 0 <ℤ q → Opens l r p q true
-opens-up l r p q q₀ = record { yes′ = λ e m f g s. end-up m f g s q₀; no′ = λ e. never e }
-
-pub opens : (l r p q : ℤ) (t : Bool) → l ≤ℤ pos 0 → q ≤ℤ pos 0 → (t ≡ true → (l *ℤ q) <ℤ (p *ℤ r)) → (t ≡ false → (p *ℤ r) ≤ℤ (l *ℤ q)) → Opens l r p q t
-opens l r p q t l₀ q₀ y n =
+pub parts : (l r p q : ℤ) (t : Bool) → l ≤ℤ pos 0 → q ≤ℤ pos 0 → pos 0 <ℤ r → pos 0 <ℤ p → (t ≡ true → (l *ℤ q) <ℤ (p *ℤ r)) → (t ≡ false → (p *ℤ r) ≤ℤ (l *ℤ q))
+    → Tells (Meets l r p q) t
+unfolding Meets
+parts l r p q t l₀ q₀ r₀ p₀ y n =
     record {
-      yes′ = λ e m f g s. end-if m f g s l₀ q₀ (y e);
-      no′ = λ e m f g s h. clashℤ (end-only m f g s l₀ q₀ h) (n e);
+      yes′ = λ e. meet-if l r p q l₀ q₀ r₀ p₀ (y e);
+      no′ = λ e m. clashℤ (meet-only (m .0) (m .1) l r p q l₀ q₀ r₀ p₀ (m .3) (m .4)) (n e);
     }
 
-pub either-first : (x y : ℤ) → pos 0 <ℤ x → Either x y true
-either-first x y h = record { some = λ e. inl h; none = λ e. never e }
+pub either-last : (x y : ℤ) → x ≤ℤ pos 0 → Tells ((pos 0 <ℤ x) ⊎ (pos 0 <ℤ y)) (ltZ (pos 0) y)
+either-last x y h =
+    record {
+      yes′ = λ e. inr (test-yes (pos 0) y e refl);
+      no′ = λ e. ⊎-elim (λ a. clashℤ a h) (λ b. clashℤ b (test-no (pos 0) y e refl));
+    }
 
-pub either-last : (x y : ℤ) → x ≤ℤ pos 0 → Either x y (ltZ (pos 0) y)
-either-last x y h = record { some = λ e. inr (test-yes (pos 0) y e refl); none = λ e. (h, test-no (pos 0) y e refl) }
+-- neither is above 0
+pub neither : (x y : ℤ) → ((pos 0 <ℤ x) ⊎ (pos 0 <ℤ y) → ⊥) → (x ≤ℤ pos 0) × (y ≤ℤ pos 0)
+neither x y h =
+    (⊎-elim (λ a. absurd (h (inl a))) (λ b. b) (below-or-not (pos 0) x), ⊎-elim (λ a. absurd (h (inr a))) (λ b. b) (below-or-not (pos 0) y))

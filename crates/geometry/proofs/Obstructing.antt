@@ -1,6 +1,6 @@
 -- Obstruction by the turns of both ends: the law that the search rests on, that it is the same both ways round, and that it is decidable.
 use mathlib.Core.Path.{_≡_}
-use mathlib.Core.Logic.{_↔_, _⊎_, inl, inr, ⊎-elim}
+use mathlib.Core.Logic.{_↔_, _⊎_, inl, inr}
 use mathlib.Core.List.{List}
 use Prim.Native.Nat.{ℕ, zero, suc, _<_}
 use native.Mathlib.Decide.{decLt}
@@ -11,10 +11,10 @@ use lib.Signed.{_<ℤ_, _≤ℤ_, clashℤ}
 use lib.ListN.{length}
 use Rattle.geometry.specs.Words.{Point, word, blockWords, corners}
 use Rattle.geometry.specs.Obstruction.{cornerAt, nextCorner, turn, sideTurn, along, Obstructs, Hidden}
-use Rattle.geometry.specs.Sides.{Enters, Span}
+use Rattle.geometry.specs.inner.Sides.{Enters, Span, Meets}
 use Rattle.geometry.proofs.Signed.{below-or-not}
-use Rattle.geometry.proofs.Weights.{swap, enters-of, of-enters}
-use Rattle.geometry.proofs.Sides.{best, Crossed, enters-iff, end-low, end-up, end-if, end-only, not-entered}
+use Rattle.geometry.proofs.Weights.{swap, enters-of, of-enters, meets-dec}
+use Rattle.geometry.proofs.Sides.{best, Crossed, enters-iff, meets-enters, enters-meets, not-entered}
 use Rattle.geometry.proofs.Turns.{scaled}
 
 -- the turn of the point t / n of the way, times n, from the turns of both ends
@@ -95,21 +95,16 @@ shut-search (suc m) x y = go (shut-search m x y) (shut-dec (x m) (y m))
         each : (k : ℕ) → k < suc m → Shut x y k → ⊥
         each k l s = at k l (decLt k m) s
 
-enters-dec : (m : ℕ) (x y : ℕ → ℤ) → Dec (Enters m x y)
+pub enters-dec : (m : ℕ) (x y : ℕ → ℤ) → Dec (Enters m x y)
 enters-dec m x y = go (shut-search m x y)
   where
-    by-span : (l r p q : ℤ) → Span m x y l r p q → Dec (Enters m x y)
-    by-span l r p q s =
-        ⊎-elim (λ l₀. yes (end-low m x y s l₀))
-        (λ l₁. ⊎-elim (λ q₀. yes (end-up m x y s q₀))
-        (λ q₁. ⊎-elim (λ t. yes (end-if m x y s l₁ q₁ t)) (λ t. no (λ h. clashℤ (end-only m x y s l₁ q₁ h) t))
-        (below-or-not (l *ℤ q) (p *ℤ r)))
-        (below-or-not (pos 0) q))
-        (below-or-not (pos 0) l)
+    by-span : (l r p q : ℤ) → Span m x y l r p q → Dec (Meets l r p q) → Dec (Enters m x y)
+    by-span l r p q s (yes h) = yes (meets-enters m x y s h)
+    by-span l r p q s (no h) = no (λ e. h (enters-meets m x y s e))
 
     go : ((k : ℕ) × (k < m) × Shut x y k) ⊎ ((k : ℕ) → k < m → Shut x y k → ⊥) → Dec (Enters m x y)
     go (inl s) = no (λ h. not-entered m x y (s .0) (s .1) (s .2 .0) (s .2 .1) h)
-    go (inr f) = let b = best m x y (λ k l a c. f k l (a, c)) in by-span (b .l) (b .r) (b .p) (b .q) (b .span)
+    go (inr f) = let b = best m x y (λ k l a c. f k l (a, c)) in by-span (b .l) (b .r) (b .p) (b .q) (b .span) (meets-dec (b .l) (b .r) (b .p) (b .q) (b .span .low) (b .span .up))
 
 pub obstructs-dec : (ps : List Point) (a b : Point) → Dec (Obstructs ps a b)
 obstructs-dec ps a b = go (enters-dec (length ps) (sideTurn ps a) (sideTurn ps b))

@@ -10,9 +10,10 @@ use lib.IntN.{ℤ, pos}
 use lib.Signed.{_≤ℤ_}
 use lib.ListN.{take, drop, length-take, length-drop}
 use lib.Seq.{getD-take, getD-drop}
-use Rattle.geometry.specs.Words.{Point, word, blockWords, corners, BoundedRecord, Bounded}
+use Rattle.geometry.specs.Words.{Point, word, blockWords, corners}
+use Rattle.geometry.specs.inner.Bounds.{BoundedRecord, Bounded}
 use Rattle.geometry.specs.Obstruction.{sideTurn, Obstructs, Hidden}
-use Rattle.geometry.specs.Sides.{Enters, Span, Small, Narrowed}
+use Rattle.geometry.specs.inner.Sides.{Enters, Span, Small, Narrowed}
 use Rattle.geometry.proofs.Bound.{within-pos}
 use Rattle.geometry.proofs.Sides.{span-none, not-entered}
 use Rattle.geometry.proofs.Corners.{places-length}

@@ -6,9 +6,9 @@ use native.Mathlib.Omega.{arith}
 use native.Mathlib.Nat.{eq-or-lt-of-le}
 use lib.IntN.{ℤ, pos, _*ℤ_}
 use lib.Signed.{_≤ℤ_, _<ℤ_, ltZ-yes}
-use Rattle.geometry.specs.Sides.{In, Inside, Enters, Span}
+use Rattle.geometry.specs.inner.Sides.{In, Inside, Enters, Span, Meets}
 use Rattle.geometry.proofs.Signed.{below-or-not, lt-le}
-use Rattle.geometry.proofs.Weights.{enters-of, of-enters, tighter, tighter-up, in-both, in-neither, in-first, in-last, meet-only, meet-if, Meets}
+use Rattle.geometry.proofs.Weights.{enters-of, of-enters, tighter, tighter-up, in-both, in-neither, meet-first, meet-last, meet-only, meet-if}
 
 one-pos : pos 0 <ℤ pos 1
 one-pos = ltZ-yes tt
@@ -75,23 +75,16 @@ module _ (m : ℕ) (x y : ℕ → ℤ) {l r p q : ℤ} (h : Span m x y l r p q) 
       }
 
   -- ---- what the two say at the end
-  pub end-low : pos 0 <ℤ l → Enters m x y
-  end-low l₀ = enters-of m x y 1 0 (omega arith) (h .all 1 0 (omega arith) (in-first l r l₀) (in-first p q (h .up)))
-
-  pub end-up : pos 0 <ℤ q → Enters m x y
-  end-up q₀ = enters-of m x y 0 1 (omega arith) (h .all 0 1 (omega arith) (in-last l r (h .low)) (in-last p q q₀))
-
-  pub end-if : l ≤ℤ pos 0 → q ≤ℤ pos 0 → (l *ℤ q) <ℤ (p *ℤ r) → Enters m x y
+  pub meets-enters : Meets l r p q → Enters m x y
   unfolding Meets
-  end-if l₀ q₀ t =
-      let e = meet-if l r p q l₀ q₀ (h .low) (h .up) t in
-      enters-of m x y (e .0) (e .1) (e .2) (h .all (e .0) (e .1) (e .2) (e .3) (e .4))
+  meets-enters e = enters-of m x y (e .0) (e .1) (e .2) (h .all (e .0) (e .1) (e .2) (e .3) (e .4))
 
-  pub end-only : l ≤ℤ pos 0 → q ≤ℤ pos 0 → Enters m x y → (l *ℤ q) <ℤ (p *ℤ r)
-  end-only l₀ q₀ k =
+  pub enters-meets : Enters m x y → Meets l r p q
+  unfolding Meets
+  enters-meets k =
       let e = of-enters m x y k in
       let b = h .only (e .0) (e .1) (e .2) (e .3) in
-      meet-only (e .0) (e .1) l r p q l₀ q₀ (h .low) (h .up) (b .0) (b .1)
+      (e .0, e .1, e .2, b .0, b .1)
 
 pub not-entered : (m : ℕ) (x y : ℕ → ℤ) (k : ℕ) → k < m → x k ≤ℤ pos 0 → y k ≤ℤ pos 0 → Enters m x y → ⊥
 not-entered m x y k l x₀ y₀ h =
@@ -151,11 +144,12 @@ best (suc m) x y h = step m x y (best m x y (λ k l. h k (omega arith))) (h m (o
 pub crossed-enters : (m : ℕ) (x y : ℕ → ℤ) → Crossed m x y → Enters m x y
 crossed-enters m x y c =
     let b = best m x y (c .each) in
-    ⊎-elim (λ l₀. end-low m x y (b .span) l₀)
-    (λ i. ⊎-elim (λ q₀. end-up m x y (b .span) q₀)
-    (λ j. end-if m x y (b .span) (rw (i .2) (i .4)) (rw (j .3) (j .4)) (rw (i .2, i .3, j .2, j .3) (c .pairs (i .0) (j .0) (i .1) (j .1) (i .4) (j .4))))
+    meets-enters m x y (b .span)
+    (⊎-elim (λ l₀. meet-first (b .l) (b .r) (b .p) (b .q) l₀ (b .span .up))
+    (λ i. ⊎-elim (λ q₀. meet-last (b .l) (b .r) (b .p) (b .q) (b .span .low) q₀)
+    (λ j. meet-if (b .l) (b .r) (b .p) (b .q) (rw (i .2) (i .4)) (rw (j .3) (j .4)) (b .span .low) (b .span .up) (rw (i .2, i .3, j .2, j .3) (c .pairs (i .0) (j .0) (i .1) (j .1) (i .4) (j .4))))
     (b .from-up))
-    (b .from-low)
+    (b .from-low))
 
 pub enters-crossed : (m : ℕ) (x y : ℕ → ℤ) → Enters m x y → Crossed m x y
 enters-crossed m x y h =

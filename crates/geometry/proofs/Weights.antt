@@ -1,12 +1,13 @@
 -- A side's two numbers (x, y), where the straight's ends stand against it, and the weights (u, s) of a point of the straight: the point is inside the side where u x + s y > 0.
 use mathlib.Core.Path.{_≡_}
+use mathlib.Core.Logic.{⊎-elim}
 use Prim.Native.Nat.{ℕ, suc, _+_, _*_, _-_, _<_, _≤_}
 use native.Mathlib.Nat.{mul-le-mul-left, mul-lt-mul-of-pos-right, lt-of-mul-lt-mul-right, lt-of-mul-lt-mul-left, mul-le-mul}
 use native.Mathlib.Omega.{arith}
 use lib.IntN.{ℤ, pos, _+ℤ_, _-ℤ_, _*ℤ_}
-use lib.Signed.{_≤ℤ_, _<ℤ_}
-use Rattle.geometry.specs.Sides.{In, Inside, Enters}
-use Rattle.geometry.proofs.Signed.{_⊖_, diff, undiff, nonpos, positive, ⊖-eq, ⊖-lt, lt-⊖, le-⊖}
+use lib.Signed.{_≤ℤ_, _<ℤ_, clashℤ}
+use Rattle.geometry.specs.inner.Sides.{In, Inside, Enters, Meets}
+use Rattle.geometry.proofs.Signed.{below-or-not, _⊖_, diff, undiff, nonpos, positive, ⊖-eq, ⊖-lt, lt-⊖, le-⊖}
 
 -- the point n A + t (B − A), with n = u + t, has the weights u and t
 pub between : (u t : ℕ) (x y : ℤ) → (pos (u + t) -ℤ pos t) *ℤ x +ℤ pos t *ℤ y ≡ pos u *ℤ x +ℤ pos t *ℤ y
@@ -55,9 +56,6 @@ meet-ℕ : (u s a b p q : ℕ) → u * a < s * b → s * q < u * p → a * q < p
 meet-ℕ u s a b p q h k =
     lt-of-mul-lt-mul-left (u * s) {m = a * q} {n = p * b} (omega (arith, mul-le-mul h k))
 
-unfoldable pub Meets : ℤ → ℤ → ℤ → ℤ → Type 0
-Meets x y p q = (u : ℕ) × (s : ℕ) × (1 ≤ u + s) × In u s x y × In u s p q
-
 pub meet-only : (u s : ℕ) (x y p q : ℤ) → x ≤ℤ pos 0 → q ≤ℤ pos 0 → pos 0 <ℤ y → pos 0 <ℤ p → In u s x y → In u s p q → (x *ℤ q) <ℤ (p *ℤ y)
 meet-only u s x y p q x₀ q₀ y₀ p₀ =
     nonpos (λ x. In u s x y → In u s p q → (x *ℤ q) <ℤ (p *ℤ y)) (λ a.
@@ -75,6 +73,24 @@ meet-if x y p q x₀ q₀ y₀ p₀ =
     positive (λ p. ((0 ⊖ a) *ℤ (0 ⊖ c)) <ℤ (p *ℤ (suc b ⊖ 0)) → Meets (0 ⊖ a) (suc b ⊖ 0) p (0 ⊖ c)) (λ d h.
     let k : _ = lt-⊖ _ _ _ _ (simp diff at h) in
     (suc b + c, a + suc d, omega arith, simp diff (⊖-lt _ _ _ _ (omega arith)), simp diff (⊖-lt _ _ _ _ (omega arith)))) p p₀) y y₀) q q₀) x x₀
+
+pub meet-first : (x y p q : ℤ) → pos 0 <ℤ x → pos 0 <ℤ p → Meets x y p q
+unfolding Meets
+meet-first x y p q x₀ p₀ = (1, 0, omega arith, in-first x y x₀, in-first p q p₀)
+
+pub meet-last : (x y p q : ℤ) → pos 0 <ℤ y → pos 0 <ℤ q → Meets x y p q
+unfolding Meets
+meet-last x y p q y₀ q₀ = (0, 1, omega arith, in-last x y y₀, in-last p q q₀)
+
+pub meets-dec : (x y p q : ℤ) → pos 0 <ℤ y → pos 0 <ℤ p → Dec (Meets x y p q)
+unfolding Meets
+meets-dec x y p q y₀ p₀ =
+    ⊎-elim (λ x₀. yes (meet-first x y p q x₀ p₀))
+    (λ x₁. ⊎-elim (λ q₀. yes (meet-last x y p q y₀ q₀))
+    (λ q₁. ⊎-elim (λ t. yes (meet-if x y p q x₁ q₁ y₀ p₀ t)) (λ t. no (λ m. clashℤ (meet-only (m .0) (m .1) x y p q x₁ q₁ y₀ p₀ (m .3) (m .4)) t))
+    (below-or-not (x *ℤ q) (p *ℤ y)))
+    (below-or-not (pos 0) q))
+    (below-or-not (pos 0) x)
 
 -- ---- all sides at once
 pub enters-of : (m : ℕ) (x y : ℕ → ℤ) (u s : ℕ) → 1 ≤ u + s → Inside m x y u s → Enters m x y

@@ -1,6 +1,4 @@
 pub mod Words
 pub mod Obstruction
-pub mod Length
 pub mod Convexity
-pub mod Sides
-pub mod Search
+pub mod inner

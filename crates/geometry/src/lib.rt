@@ -1,18 +1,19 @@
-// Exact geometry on whole centimetres: turns, obstruction, convexity and rounded-up lengths.
+// Exact geometry on whole centimetres: turns, obstruction and convexity.
 ghost use mathlib.Core.Path.{_≡_};
 ghost use mathlib.Core.Logic.{_⊎_};
-ghost use Prim.Native.Nat.{ℕ, _+_, _*_, _%_, _<_, _≤_};
-ghost use lib.IntN.{ℤ, pos, _-ℤ_, _*ℤ_};
+ghost use Prim.Native.Nat.{_+_, _*_, _%_, _<_, _≤_};
+ghost use lib.IntN.{pos, _-ℤ_, _*ℤ_};
 ghost use lib.Signed.{_<ℤ_, ltZ};
-ghost use lib.ListN.{length};
 ghost use mir.Syntax.{w64};
 ghost use mir.Val.{SFits};
-ghost use Rattle.geometry.specs.Words.{point, pointOf, word, corners, BoundedRecord, Bounded, Near};
+ghost use Rattle.geometry.specs.Words.{pointOf, word, corners};
+ghost use Rattle.geometry.specs.inner.Bounds.{BoundedRecord, Bounded, InRange};
 ghost use Rattle.geometry.specs.Obstruction.{turn, sideTurn};
-ghost use Rattle.geometry.specs.Length.{Root, gap, squared, rootUp, lengthOf};
-ghost use Rattle.geometry.specs.Convexity.{allBelow, sideTest, convex};
-ghost use Rattle.geometry.specs.Sides.{Within, Small, Narrowed, Opens, Either};
-ghost use Rattle.geometry.specs.Search.{Lowest};
+ghost use Rattle.geometry.specs.Convexity.{sideTest, convex};
+ghost use Rattle.lists.specs.Lists.{allBelow};
+ghost use Rattle.geometry.specs.inner.Sides.{Within, Small, Narrowed, Meets};
+ghost use Rattle.lists.specs.inner.Tells.{Tells};
+ghost use Rattle.geometry.specs.inner.Search.{Lowest};
 
 // A place: east, then north.
 pub struct Place {
@@ -28,34 +29,34 @@ pub enum Hider {
 
 // The tightest two of the sides passed, by the turns of both ends: (l, r) of those that the first end is not left of,
 // (p, q) of those that the second end is not left of.
-struct Span {
-    l: i64,
-    r: i64,
-    p: i64,
-    q: i64,
+pub struct Span {
+    pub l: i64,
+    pub r: i64,
+    pub p: i64,
+    pub q: i64,
 }
 
-fn wide(a: u16) -> i64
+pub fn wide(a: u16) -> i64
     ensures { λ r. ⌜ r ≡ pos a ⌝ }
 {
     a as i64
 }
 
-fn sub(a: i64, b: i64) -> i64
+pub fn sub(a: i64, b: i64) -> i64
     requires { ⌜ SFits w64 (a -ℤ b) ⌝ }
     ensures { λ r. ⌜ r ≡ a -ℤ b ⌝ }
 {
     a - b
 }
 
-fn mul(a: i64, b: i64) -> i64
+pub fn mul(a: i64, b: i64) -> i64
     requires { ⌜ SFits w64 (a *ℤ b) ⌝ }
     ensures { λ r. ⌜ r ≡ a *ℤ b ⌝ }
 {
     a * b
 }
 
-fn difference(a: u16, b: u16) -> i64
+pub fn difference(a: u16, b: u16) -> i64
     ensures { λ r. ⌜ r ≡ pos a -ℤ pos b ⌝ }
 {
     sub(wide(a), wide(b))
@@ -78,7 +79,7 @@ pub fn turn(p: Place, q: Place, x: Place) -> i64
 }
 
 // The number of the corner after corner k, of m.
-fn next(k: usize, m: usize) -> usize
+pub fn next(k: usize, m: usize) -> usize
     requires { ⌜ (k < m) × (m ≤ 8) ⌝ }
     ensures value { λ j. ⌜ j ≡ (k + 1) % m ⌝ }
     ensures below { λ j. ⌜ j < m ⌝ }
@@ -87,7 +88,7 @@ fn next(k: usize, m: usize) -> usize
 }
 
 // Corner k of a block record.
-fn corner(words: &[u16], k: usize) -> Place
+pub fn corner(words: &[u16], k: usize) -> Place
     requires { ⌜ (BoundedRecord (now words)) × (k < 8) ⌝ }
     ensures { λ r. ⌜ (r .east ≡ word (now (words .entry)) (2 * k + 1)) × (r .north ≡ word (now (words .entry)) (2 * k + 2)) ⌝ }
 {
@@ -98,10 +99,10 @@ fn corner(words: &[u16], k: usize) -> Place
 }
 
 // The turn of x against side k of a block record.
-fn side(words: &[u16], k: usize, x: Place) -> i64
-    requires { ⌜ (BoundedRecord (now words)) × (k < word (now words) 0) × (Near (pointOf x)) ⌝ }
+pub fn side(words: &[u16], k: usize, x: Place) -> i64
+    requires { ⌜ (BoundedRecord (now words)) × (k < word (now words) 0) × (InRange (pointOf x)) ⌝ }
     ensures value { λ r. ⌜ r ≡ sideTurn (corners (now (words .entry))) (pointOf x) k ⌝ }
-    ensures small { λ r. ⌜ Within 2147483648 r ⌝ }
+    ensures small { λ r. ⌜ Within 2200000000 r ⌝ }
 {
     let m = words[0] as usize;
     let p = corner(words, k);
@@ -110,17 +111,17 @@ fn side(words: &[u16], k: usize, x: Place) -> i64
 }
 
 // Whether x / y < l / r, where y and r are above 0.
-fn steeper(x: i64, y: i64, l: i64, r: i64) -> bool
-    requires { ⌜ (Within 2147483648 x) × (Within 2147483648 y) × (Within 2147483648 l) × (Within 2147483648 r) ⌝ }
+pub fn steeper(x: i64, y: i64, l: i64, r: i64) -> bool
+    requires { ⌜ (Within 2200000000 x) × (Within 2200000000 y) × (Within 2200000000 l) × (Within 2200000000 r) ⌝ }
     ensures { λ t. ⌜ t ≡ ltZ (x *ℤ r) (l *ℤ y) ⌝ }
 {
     mul(x, r) < mul(l, y)
 }
 
 // The two kept sides after the side whose turns are x and y.
-fn narrow(s: Span, x: i64, y: i64) -> Span
+pub fn narrow(s: Span, x: i64, y: i64) -> Span
     requires small { ⌜ Small (s .l) (s .r) (s .p) (s .q) ⌝ }
-    requires side { ⌜ (Within 2147483648 x) × (Within 2147483648 y) × ((pos 0 <ℤ x) ⊎ (pos 0 <ℤ y)) ⌝ }
+    requires side { ⌜ (Within 2200000000 x) × (Within 2200000000 y) × ((pos 0 <ℤ x) ⊎ (pos 0 <ℤ y)) ⌝ }
     ensures { λ t. ⌜ Narrowed (s .l) (s .r) (s .p) (s .q) x y (t .l) (t .r) (t .p) (t .q) ⌝ }
 {
     if 0 < x {
@@ -149,9 +150,10 @@ fn narrow(s: Span, x: i64, y: i64) -> Span
 }
 
 // Whether some point of the segment is left of both kept sides.
-fn parted(s: Span) -> bool
-    requires { ⌜ Small (s .l) (s .r) (s .p) (s .q) ⌝ }
-    ensures { λ t. ⌜ Opens (s .l) (s .r) (s .p) (s .q) t ⌝ }
+pub fn parted(s: Span) -> bool
+    requires small { ⌜ Small (s .l) (s .r) (s .p) (s .q) ⌝ }
+    requires above { ⌜ (pos 0 <ℤ (s .r)) × (pos 0 <ℤ (s .p)) ⌝ }
+    ensures { λ t. ⌜ Tells (Meets (s .l) (s .r) (s .p) (s .q)) t ⌝ }
 {
     let l = s.l;
     let q = s.q;
@@ -165,8 +167,8 @@ fn parted(s: Span) -> bool
 }
 
 // Whether one of the two is above 0.
-fn either(x: i64, y: i64) -> bool
-    ensures { λ t. ⌜ Either x y t ⌝ }
+pub fn either(x: i64, y: i64) -> bool
+    ensures { λ t. ⌜ Tells ((pos 0 <ℤ x) ⊎ (pos 0 <ℤ y)) t ⌝ }
 {
     if 0 < x {
         return true;
@@ -178,7 +180,7 @@ fn either(x: i64, y: i64) -> bool
 pub fn lowest_hider(blocks: &[u16], from: usize, to: usize, a: Place, b: Place) -> Hider
     requires blocks { ⌜ Bounded (now blocks) ⌝ }
     requires range { ⌜ to ≤ 24 ⌝ }
-    requires ends { ⌜ (Near (pointOf a)) × (Near (pointOf b)) ⌝ }
+    requires ends { ⌜ (InRange (pointOf a)) × (InRange (pointOf b)) ⌝ }
     ensures { λ r. ⌜ Lowest (now (blocks .entry)) from to (pointOf a) (pointOf b) r ⌝ }
 {
     let mut n = from;
@@ -261,65 +263,4 @@ pub fn is_convex(words: &[u16]) -> bool
         }
     }
     true
-}
-
-// The root of n, rounded down.
-pub fn root(n: u64) -> u64
-    ensures { λ r. ⌜ Root n r ⌝ }
-{
-    if n == 0 {
-        return 0;
-    }
-    let r = 2 * root(n / 4);
-    let s = r + 1;
-    if s * s <= n {
-        return s;
-    }
-    r
-}
-
-// The smallest number whose square is at least n.
-pub fn root_up(n: u64) -> u64
-    requires { ⌜ n ≤ 8589672450 ⌝ }
-    ensures { λ w. ⌜ w ≡ rootUp n ⌝ }
-{
-    let r = root(n);
-    if r * r < n {
-        return r + 1;
-    }
-    r
-}
-
-// How far apart two coordinates are.
-pub fn apart(a: u16, b: u16) -> u64
-    ensures value { λ r. ⌜ r ≡ gap a b ⌝ }
-    ensures small { λ r. ⌜ r ≤ 65535 ⌝ }
-{
-    if a < b {
-        return (b - a) as u64;
-    }
-    (a - b) as u64
-}
-
-fn square(a: u64) -> u64
-    requires { ⌜ a ≤ 65535 ⌝ }
-    ensures value { λ r. ⌜ r ≡ a * a ⌝ }
-    ensures small { λ r. ⌜ r ≤ 4294836225 ⌝ }
-{
-    a * a
-}
-
-// The squared length of a segment, not rounded.
-pub fn squared(a: Place, b: Place) -> u64
-    ensures value { λ r. ⌜ r ≡ squared (pointOf a) (pointOf b) ⌝ }
-    ensures small { λ r. ⌜ r ≤ 8589672450 ⌝ }
-{
-    square(apart(a.east, b.east)) + square(apart(a.north, b.north))
-}
-
-// The length of a segment, rounded up: at most 46,340 between coordinates up to 32,767 (`length-bound`).
-pub fn length_of(a: Place, b: Place) -> u64
-    ensures { λ w. ⌜ w ≡ lengthOf (pointOf a) (pointOf b) ⌝ }
-{
-    root_up(squared(a, b))
 }

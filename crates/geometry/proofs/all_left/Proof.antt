@@ -4,13 +4,11 @@ use mathlib.Core.Bool.{true}
 use Prim.Native.Nat.{_-_, _≤_}
 use native.Mathlib.Omega.{arith}
 use Rattle.geometry.specs.Words.{corners}
-use Rattle.geometry.specs.Convexity.{allBelow, sideTest}
-use Rattle.geometry.proofs.Below.{all-none, all-next, all-done, all-failed, by-call}
+use Rattle.geometry.specs.Convexity.{sideTest}
+use Rattle.lists.specs.Lists.{allBelow}
+use Rattle.lists.proofs.Below.{all-none, all-next, all-done, all-failed, by-call}
 use Rattle.geometry.proofs.all_left.Statement.{statement}
 use Rattle.geometry.proofs.all_left.Tie as tie
-use Rattle.geometry.proofs.all_left.Reads as reads
-use Rattle.geometry.proofs.all_left.Lts as lts
-use Rattle.geometry.proofs.is_left.Reads as is-left-reads
 
 abbrev Inv-loop : tie.InvT-loop
 Inv-loop words k m l₀ l = (l ≤ m) × (allBelow l (λ j. sideTest (corners words) k j) ≡ true)
@@ -18,23 +16,11 @@ Inv-loop words k m l₀ l = (l ≤ m) × (allBelow l (λ j. sideTest (corners wo
 abbrev μ-loop : tie.MeasureT-loop
 μ-loop words k m l₀ l = m - l
 
-shared-slice-read-m : tie.Need-shared-slice-read-m Inv-loop μ-loop
-shared-slice-read-m c = search needs
-
 cast-m : tie.Need-cast-m Inv-loop μ-loop
 cast-m c = omega (arith, c .shared-slice-known2 .given 0)
 
 loop-holds : tie.Need-loop-holds Inv-loop μ-loop
 loop-holds c = (omega arith, all-none _)
-
-is-left-requires : tie.Need-is-left-requires Inv-loop μ-loop
-is-left-requires c κs = search needs
-
-add-l : tie.Need-add-l Inv-loop μ-loop
-add-l c = search needs
-
-loop-less : tie.Need-loop-less Inv-loop μ-loop
-loop-less c = search needs
 
 loop-again : tie.Need-loop-again Inv-loop μ-loop
 loop-again c = (omega arith, search (all-next, by-call))
@@ -51,12 +37,12 @@ all-left-spec =
     (tie.spec
     Inv-loop
     μ-loop
-    shared-slice-read-m
+    (λ c. search needs)
     cast-m
     loop-holds
-    is-left-requires
-    add-l
-    loop-less
+    (λ c κs. search needs)
+    (λ c. search needs)
+    (λ c. search needs)
     loop-again
     returns
     returns-2)

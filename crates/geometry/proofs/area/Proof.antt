@@ -6,12 +6,6 @@ use Rattle.geometry.proofs.Bound.{read, within-gap, within-mul, within-
 use Rattle.geometry.proofs.area.Statement.{statement}
 use Rattle.geometry.proofs.area.Tie as tie
 
-difference-requires : tie.Need-difference-requires
-difference-requires c κs = search needs
-
-difference-requires-2 : tie.Need-difference-requires-2
-difference-requires-2 c κs = search needs
-
 mul-requires : tie.Need-mul-requires
 mul-requires c κs =
     let s = c .before .before in
@@ -29,4 +23,10 @@ returns c =
     rw (read (c .mul .ok) (c .mul .ensures), read (w .difference .ok) (w .difference .ensures), read (c .before .difference2 .ok) (c .before .difference2 .ensures))
 
 pub area-spec : {M : Type 1} → statement M
-area-spec = tie.close (tie.spec difference-requires difference-requires-2 mul-requires returns)
+area-spec =
+    tie.close
+    (tie.spec
+    (λ c κs. search needs)
+    (λ c κs. search needs)
+    mul-requires
+    returns)

@@ -6,12 +6,6 @@ use Rattle.geometry.proofs.Bound.{read, within-gap, within-fits}
 use Rattle.geometry.proofs.difference.Statement.{statement}
 use Rattle.geometry.proofs.difference.Tie as tie
 
-wide-requires : tie.Need-wide-requires
-wide-requires c κs = search needs
-
-wide-requires-2 : tie.Need-wide-requires-2
-wide-requires-2 c κs = search needs
-
 sub-requires : tie.Need-sub-requires
 sub-requires c κs =
     let s = c .before .before in
@@ -24,4 +18,10 @@ returns c =
     rw (read (c .sub .ok) (c .sub .ensures), read (w .wide .ok) (w .wide .ensures), read (c .before .wide2 .ok) (c .before .wide2 .ensures))
 
 pub difference-spec : {M : Type 1} → statement M
-difference-spec = tie.close (tie.spec wide-requires wide-requires-2 sub-requires returns)
+difference-spec =
+    tie.close
+    (tie.spec
+    (λ c κs. search needs)
+    (λ c κs. search needs)
+    sub-requires
+    returns)

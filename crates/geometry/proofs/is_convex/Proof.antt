@@ -4,14 +4,12 @@ use mathlib.Core.Bool.{true}
 use Prim.Native.Nat.{_-_, _≤_}
 use native.Mathlib.Omega.{arith}
 use Rattle.geometry.specs.Words.{word, corners}
-use Rattle.geometry.specs.Convexity.{allBelow, sideTest}
-use Rattle.geometry.proofs.Below.{all-none, all-next, all-done, all-failed, by-call}
+use Rattle.geometry.specs.Convexity.{sideTest}
+use Rattle.lists.specs.Lists.{allBelow}
+use Rattle.lists.proofs.Below.{all-none, all-next, all-done, all-failed, by-call}
 use Rattle.geometry.proofs.Convexities.{convex-is}
 use Rattle.geometry.proofs.is_convex.Statement.{statement}
 use Rattle.geometry.proofs.is_convex.Tie as tie
-use Rattle.geometry.proofs.is_convex.Reads as reads
-use Rattle.geometry.proofs.is_convex.Lts as lts
-use Rattle.geometry.proofs.all_left.Reads as all-left-reads
 
 abbrev Inv-loop : tie.InvT-loop
 Inv-loop words m k₀ k = (k ≤ m) × (allBelow k (λ j. allBelow (word words 0) (λ l. sideTest (corners words) j l)) ≡ true)
@@ -19,23 +17,11 @@ Inv-loop words m k₀ k = (k ≤ m) × (allBelow k (λ j. allBelow (word words 0
 abbrev μ-loop : tie.MeasureT-loop
 μ-loop words m k₀ k = m - k
 
-shared-slice-read-m : tie.Need-shared-slice-read-m Inv-loop μ-loop
-shared-slice-read-m c = search needs
-
 cast-m : tie.Need-cast-m Inv-loop μ-loop
 cast-m c = omega (arith, c .shared-slice-known2 .given 0)
 
 loop-holds : tie.Need-loop-holds Inv-loop μ-loop
 loop-holds c = (omega arith, all-none _)
-
-all-left-requires : tie.Need-all-left-requires Inv-loop μ-loop
-all-left-requires c κs = search needs
-
-add-k : tie.Need-add-k Inv-loop μ-loop
-add-k c = search needs
-
-loop-less : tie.Need-loop-less Inv-loop μ-loop
-loop-less c = search needs
 
 loop-again : tie.Need-loop-again Inv-loop μ-loop
 loop-again c = (omega arith, search (all-next, by-call))
@@ -52,12 +38,12 @@ is-convex-spec =
     (tie.spec
     Inv-loop
     μ-loop
-    shared-slice-read-m
+    (λ c. search needs)
     cast-m
     loop-holds
-    all-left-requires
-    add-k
-    loop-less
+    (λ c κs. search needs)
+    (λ c. search needs)
+    (λ c. search needs)
     loop-again
     returns
     returns-2)

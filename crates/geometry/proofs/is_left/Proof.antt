@@ -1,38 +1,21 @@
 use borrow.Author.Needs.{needs}
 use Rattle.geometry.specs.Words.{pointOf}
 use Rattle.geometry.proofs.Bound.{read}
-use Rattle.geometry.proofs.Corners.{corner-read, corner-near}
+use Rattle.geometry.proofs.Corners.{corner-read, corner-in-range}
 use Rattle.geometry.proofs.Convexities.{side-same, side-next, side-left}
 use Rattle.geometry.proofs.is_left.Statement.{statement}
 use Rattle.geometry.proofs.is_left.Tie as tie
-use Rattle.geometry.proofs.is_left.Reads as reads
-use Rattle.geometry.proofs.is_left.Lts as lts
-use Rattle.geometry.proofs.corner.Reads as corner-reads
-use Rattle.geometry.proofs.next.Reads as next-reads
-use Rattle.geometry.proofs.side.Reads as side-reads
-
-shared-slice-read-m : tie.Need-shared-slice-read-m
-shared-slice-read-m c = search needs
-
-cast-m : tie.Need-cast-m
-cast-m c = search needs
 
 returns : tie.Need-returns
 returns c = side-same _ _ _ (c .if1 .taken)
 
-next-requires : tie.Need-next-requires
-next-requires c κs = search needs
-
 returns-2 : tie.Need-returns-2
 returns-2 c = side-next _ _ _ (c .before .next .ensures .0) (c .if2 .taken)
-
-corner-requires : tie.Need-corner-requires
-corner-requires c κs = search needs
 
 side-requires : tie.Need-side-requires
 side-requires c κs =
     let s = c .before .before .before .before .before .before in
-    (s .pre .0, s .pre .1, rw (corner-read (s .args .words .now) (pointOf (c .corner .result)) (s .args .l) (s .pre .2) (c .corner .ensures .0) (c .corner .ensures .1)) (corner-near _ (s .pre .0) _ (s .pre .2)))
+    (s .pre .0, s .pre .1, rw (corner-read (s .args .words .now) (pointOf (c .corner .result)) (s .args .l) (s .pre .2) (c .corner .ensures .0) (c .corner .ensures .1)) (corner-in-range _ (s .pre .0) _ (s .pre .2)))
 
 returns-3 : tie.Need-returns-3
 returns-3 c =
@@ -46,11 +29,11 @@ pub is-left-spec : {M : Type 1} → statement M
 is-left-spec =
     tie.close
     (tie.spec
-    shared-slice-read-m
-    cast-m
+    (λ c. search needs)
+    (λ c. search needs)
     returns
-    next-requires
+    (λ c κs. search needs)
     returns-2
-    corner-requires
+    (λ c κs. search needs)
     side-requires
     returns-3)

@@ -1,5 +1,5 @@
 use borrow.Author.Needs.{needs}
-use borrow.Author.Tests.{not-true, not-false}
+use Rattle.lists.proofs.Telling.{told, denied}
 use mathlib.Core.Path.{refl, sym}
 use mathlib.Core.Logic.{⊎-elim}
 use Prim.Native.Nat.{ℕ, _-_, _<_, _≤_}
@@ -7,15 +7,11 @@ use native.Mathlib.Omega.{arith}
 use Rattle.geometry.specs.Words.{pointOf}
 use Rattle.geometry.specs.Obstruction.{Hidden}
 use Rattle.geometry.proofs.Bound.{read}
+use Rattle.geometry.proofs.Sides.{meets-enters, enters-meets}
+use Rattle.geometry.proofs.Narrowing.{neither}
 use Rattle.geometry.proofs.Searching.{part-is, Passed, passed-none, passed-next, passed-shut, passed-all, span-whole, hidden-by, none-more}
 use Rattle.geometry.proofs.lowest_hider.Statement.{statement}
 use Rattle.geometry.proofs.lowest_hider.Tie as tie
-use Rattle.geometry.proofs.lowest_hider.Reads as reads
-use Rattle.geometry.proofs.lowest_hider.Lts as lts
-use Rattle.geometry.proofs.either.Reads as either-reads
-use Rattle.geometry.proofs.narrow.Reads as narrow-reads
-use Rattle.geometry.proofs.parted.Reads as parted-reads
-use Rattle.geometry.proofs.side.Reads as side-reads
 
 abbrev Inv-loop : tie.InvT-loop
 Inv-loop blocks from to a b n words count kept₀ k₀ kept k =
@@ -36,30 +32,6 @@ blocks2-holds c = (omega arith, λ k lo hi h. omega arith)
 returns : tie.Need-returns Inv-loop μ-loop Inv-blocks2 μ-blocks2
 returns c = λ k lo hi. c .before .blocks2 .inv .1 k lo (omega arith)
 
-mul-words : tie.Need-mul-words Inv-loop μ-loop Inv-blocks2 μ-blocks2
-mul-words c = search needs
-
-mul-words-2 : tie.Need-mul-words-2 Inv-loop μ-loop Inv-blocks2 μ-blocks2
-mul-words-2 c = search needs
-
-add-words : tie.Need-add-words Inv-loop μ-loop Inv-blocks2 μ-blocks2
-add-words c = search needs
-
-mul-words-3 : tie.Need-mul-words-3 Inv-loop μ-loop Inv-blocks2 μ-blocks2
-mul-words-3 c = search needs
-
-sub-words : tie.Need-sub-words Inv-loop μ-loop Inv-blocks2 μ-blocks2
-sub-words c = search needs
-
-part-words-start : tie.Need-part-words-start Inv-loop μ-loop Inv-blocks2 μ-blocks2
-part-words-start c = search needs
-
-part-words-end : tie.Need-part-words-end Inv-loop μ-loop Inv-blocks2 μ-blocks2
-part-words-end c = search needs
-
-shared-slice-read-count : tie.Need-shared-slice-read-count Inv-loop μ-loop Inv-blocks2 μ-blocks2
-shared-slice-read-count c = search needs
-
 cast-count : tie.Need-cast-count Inv-loop μ-loop Inv-blocks2 μ-blocks2
 cast-count c = omega (arith, c .shared-slice-known2 .given 0)
 
@@ -68,12 +40,6 @@ loop-holds c =
     let e = c .before .before in
     let s = e .before .before .before in
     passed-none _ _ _ _ (s .pre .0) (omega arith) (part-is (s .args .blocks .now) (e .before .blocks2 .n))
-
-side-requires : tie.Need-side-requires Inv-loop μ-loop Inv-blocks2 μ-blocks2
-side-requires c κs = search needs
-
-side-requires-2 : tie.Need-side-requires-2 Inv-loop μ-loop Inv-blocks2 μ-blocks2
-side-requires-2 c κs = search needs
 
 either-requires : tie.Need-either-requires Inv-loop μ-loop Inv-blocks2 μ-blocks2
 either-requires c κs = tt
@@ -85,18 +51,17 @@ narrow-requires c κs =
       (
         rw (read (k .before .side .ok) refl) (k .before .side .ensures .1),
         rw (read (k .side2 .ok) refl) (k .side2 .ensures .1),
-        c .before .either .ensures .some (not-false _ (c .if2 .left)),
+        told (c .before .either .ensures) (c .if2 .left),
       ),
     )
 
-add-k : tie.Need-add-k Inv-loop μ-loop Inv-blocks2 μ-blocks2
-add-k c = search needs
-
 parted-requires : tie.Need-parted-requires Inv-loop μ-loop Inv-blocks2 μ-blocks2
-parted-requires c κs = c .before .narrow .ensures .small
-
-loop-less : tie.Need-loop-less Inv-loop μ-loop Inv-blocks2 μ-blocks2
-loop-less c = search needs
+parted-requires c κs =
+    let n = c .before in
+    let k = n .before .before .before in
+    let l = k .before .before in
+    let s = span-whole _ _ _ _ (l .before .loop .inv) (c .if3 .taken) (sym (read (k .before .side .ok) (k .before .side .ensures .0))) (sym (read (k .side2 .ok) (k .side2 .ensures .0))) (n .narrow .ensures) in
+    (n .narrow .ensures .small, (s .low, s .up))
 
 loop-again : tie.Need-loop-again Inv-loop μ-loop Inv-blocks2 μ-blocks2
 loop-again c =
@@ -104,10 +69,7 @@ loop-again c =
     let k = n .before .before .before in
     let l = k .before .before in
     passed-next _ _ _ _ (l .before .loop .inv) (l .loop-test .taken) (sym (read (k .before .side .ok) (k .before .side .ensures .0))) (sym (read (k .side2 .ok) (k .side2 .ensures .0))) (n .narrow .ensures)
-    (λ e. c .before .parted .ensures .no′ (c .if4 .left) _ _ _ (span-whole _ _ _ _ (l .before .loop .inv) e (sym (read (k .before .side .ok) (k .before .side .ensures .0))) (sym (read (k .side2 .ok) (k .side2 .ensures .0))) (n .narrow .ensures)))
-
-loop-less-2 : tie.Need-loop-less-2 Inv-loop μ-loop Inv-blocks2 μ-blocks2
-loop-less-2 c = search needs
+    (λ e i. c .before .parted .ensures .no′ (c .if4 .left) (enters-meets _ _ _ (span-whole _ _ _ _ (l .before .loop .inv) e (sym (read (k .before .side .ok) (k .before .side .ensures .0))) (sym (read (k .side2 .ok) (k .side2 .ensures .0))) (n .narrow .ensures)) i))
 
 loop-again-2 : tie.Need-loop-again-2 Inv-loop μ-loop Inv-blocks2 μ-blocks2
 loop-again-2 c =
@@ -116,19 +78,13 @@ loop-again-2 c =
     let l = k .before .before in
     passed-next _ _ _ _ (l .before .loop .inv) (l .loop-test .taken) (sym (read (k .before .side .ok) (k .before .side .ensures .0))) (sym (read (k .side2 .ok) (k .side2 .ensures .0))) (n .narrow .ensures) (λ e. absurd (c .if3 .left e))
 
-add-n : tie.Need-add-n Inv-loop μ-loop Inv-blocks2 μ-blocks2
-add-n c = search needs
-
-blocks2-less : tie.Need-blocks2-less Inv-loop μ-loop Inv-blocks2 μ-blocks2
-blocks2-less c = search needs
-
 blocks2-again : tie.Need-blocks2-again Inv-loop μ-loop Inv-blocks2 μ-blocks2
 blocks2-again c =
     let o = c .before .before .before .before .before in (
       omega arith,
       none-more _ _ _ (o .blocks2 .inv .1)
           (⊎-elim (λ w. passed-all _ _ _ _ (c .before .loop .inv) (w .left))
-          (λ w. passed-shut _ _ _ _ (c .before .loop .inv) (w .0 .taken) (sym (read (w .1 .ok) (w .1 .ensures .0))) (sym (read (w .2 .ok) (w .2 .ensures .0))) (w .3 .ensures .none (not-true _ (w .4 .taken))))
+          (λ w. passed-shut _ _ _ _ (c .before .loop .inv) (w .0 .taken) (sym (read (w .1 .ok) (w .1 .ensures .0))) (sym (read (w .2 .ok) (w .2 .ensures .0))) (neither _ _ (denied (w .3 .ensures) (w .4 .taken))))
           (c .loop-test .came)),
     )
 
@@ -142,7 +98,7 @@ returns-2 c =
       after = o .blocks2 .inv .0;
       before = omega arith;
       hides = hidden-by _ _ _ _ (l .before .loop .inv .words) (omega (arith, l .before .loop .inv .counted))
-          (c .before .parted .ensures .yes′ (c .if4 .taken) _ _ _ (span-whole _ _ _ _ (l .before .loop .inv) (c .before .before .if3 .taken) (sym (read (k .before .side .ok) (k .before .side .ensures .0))) (sym (read (k .side2 .ok) (k .side2 .ensures .0))) (n .narrow .ensures)));
+          (meets-enters _ _ _ (span-whole _ _ _ _ (l .before .loop .inv) (c .before .before .if3 .taken) (sym (read (k .before .side .ok) (k .before .side .ensures .0))) (sym (read (k .side2 .ok) (k .side2 .ensures .0))) (n .narrow .ensures)) (c .before .parted .ensures .yes′ (c .if4 .taken)));
       lowest = o .blocks2 .inv .1;
     }
 
@@ -156,27 +112,27 @@ lowest-hider-spec =
     μ-blocks2
     blocks2-holds
     returns
-    mul-words
-    mul-words-2
-    add-words
-    mul-words-3
-    sub-words
-    part-words-start
-    part-words-end
-    shared-slice-read-count
+    (λ c. search needs)
+    (λ c. search needs)
+    (λ c. search needs)
+    (λ c. search needs)
+    (λ c. search needs)
+    (λ c. search needs)
+    (λ c. search needs)
+    (λ c. search needs)
     cast-count
     loop-holds
-    side-requires
-    side-requires-2
+    (λ c κs. search needs)
+    (λ c κs. search needs)
     either-requires
     narrow-requires
-    add-k
+    (λ c. search needs)
     parted-requires
-    loop-less
+    (λ c. search needs)
     loop-again
-    loop-less-2
+    (λ c. search needs)
     loop-again-2
-    add-n
-    blocks2-less
+    (λ c. search needs)
+    (λ c. search needs)
     blocks2-again
     returns-2)

@@ -25,9 +25,6 @@ returns c =
     step-both _ _ _ _ (a .x) (a .y) (s .pre .0) (s .pre .1 .0) (s .pre .1 .1) (x-pos (c .before))
     (here-yes (pos 0) (a .y) fits-zero (s .fits .y) (c .if2 .taken))
 
-steeper-requires : tie.Need-steeper-requires
-steeper-requires c κs = search needs
-
 returns-2 : tie.Need-returns-2
 returns-2 c =
     let k = c .before .before in
@@ -54,9 +51,6 @@ returns-3 c =
     let fq = within-fits (s .pre .0 .small-q) (lit< tt) in
     step-up-keep _ _ _ _ (a .x) (a .y) (s .pre .0) (s .pre .1 .0) (s .pre .1 .1) (x-pos t)
     (steeper-no (a .y) (a .x) _ _ (s .fits .y) (s .fits .x) fq fp (k .steeper .ensures) (c .if3 .left))
-
-steeper-requires-2 : tie.Need-steeper-requires-2
-steeper-requires-2 c κs = search needs
 
 returns-4 : tie.Need-returns-4
 returns-4 c =
@@ -88,4 +82,11 @@ returns-5 c =
 pub narrow-spec : {M : Type 1} → statement M
 narrow-spec =
     tie.close
-    (tie.spec returns steeper-requires returns-2 returns-3 steeper-requires-2 returns-4 returns-5)
+    (tie.spec
+    returns
+    (λ c κs. search needs)
+    returns-2
+    returns-3
+    (λ c κs. search needs)
+    returns-4
+    returns-5)

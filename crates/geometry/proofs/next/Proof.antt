@@ -1,18 +1,10 @@
 use borrow.Author.Needs.{needs}
 use Rattle.geometry.proofs.next.Statement.{statement}
 use Rattle.geometry.proofs.next.Tie as tie
-use Rattle.geometry.proofs.next.Reads as reads
-use Rattle.geometry.proofs.next.Lts as lts
 use mathlib.Core.Path.{_≡_, sym}
 use native.Mathlib.Omega.{arith}
 use Prim.Native.Nat.{_+_}
 use native.Mathlib.Nat.{mod-eq-of-lt, mod-self}
-
-add-if1 : tie.Need-add-if1
-add-if1 c = search needs
-
-add-result : tie.Need-add-result
-add-result c = search needs
 
 returns : tie.Need-returns
 returns c = (sym (mod-eq-of-lt (c .if1 .taken)), c .if1 .taken)
@@ -23,4 +15,10 @@ returns-2 c =
     (rw e (sym (mod-self _)), omega arith)
 
 pub next-spec : {M : Type 1} → statement M
-next-spec = tie.close (tie.spec add-if1 add-result returns returns-2)
+next-spec =
+    tie.close
+    (tie.spec
+    (λ c. search needs)
+    (λ c. search needs)
+    returns
+    returns-2)

@@ -6,15 +6,9 @@ use Prim.Native.Nat.{ℕ, _≤_}
 use lib.IntN.{pos, _-ℤ_, _*ℤ_}
 use Rattle.geometry.proofs.Bound.{read, within-gap, within-mul, within-sub, within-fits}
 use Rattle.geometry.proofs.Corners.{turn-one}
-use Rattle.geometry.specs.Sides.{Within}
+use Rattle.geometry.specs.inner.Sides.{Within}
 use Rattle.geometry.proofs.turn.Statement.{statement}
 use Rattle.geometry.proofs.turn.Tie as tie
-
-area-requires : tie.Need-area-requires
-area-requires c κs = search needs
-
-area-requires-2 : tie.Need-area-requires-2
-area-requires-2 c κs = search needs
 
 flat : (a b c d : ℕ) → a ≤ 65535 → b ≤ 65535 → c ≤ 65535 → d ≤ 65535 → Within 4294836225 ((pos a -ℤ pos b) *ℤ (pos c -ℤ pos d))
 flat a b c d h i j k = within-mul 4294836225 (within-gap 65535 a b h i) (within-gap 65535 c d j k) (lit≤ tt)
@@ -37,4 +31,10 @@ returns c =
     rw (turn-one _ _ _ _, read (c .sub .ok) (c .sub .ensures), read (w .area .ok) (w .area .ensures), read (c .before .area2 .ok) (c .before .area2 .ensures))
 
 pub turn-spec : {M : Type 1} → statement M
-turn-spec = tie.close (tie.spec area-requires area-requires-2 sub-requires returns)
+turn-spec =
+    tie.close
+    (tie.spec
+    (λ c κs. search needs)
+    (λ c κs. search needs)
+    sub-requires
+    returns)

@@ -6,11 +6,12 @@ use mir.ValLaws.{toZ-pos}
 use Rattle.geometry.proofs.wide.Statement.{statement}
 use Rattle.geometry.proofs.wide.Tie as tie
 
-cast-result : tie.Need-cast-result
-cast-result c = search needs
-
 returns : tie.Need-returns
 returns c = toZ-pos w64 (c .args .a) (omega (arith, c .fits .a))
 
 pub wide-spec : {M : Type 1} → statement M
-wide-spec = tie.close (tie.spec cast-result returns)
+wide-spec =
+    tie.close
+    (tie.spec
+    (λ c. search needs)
+    returns)

@@ -1,13 +1,8 @@
 -- The length of a segment, rounded up to a whole centimetre. Document 01, "Length of a straight".
 use mathlib.Core.Bool.{cond}
-use Prim.Native.Nat.{ℕ, zero, suc, _+_, _*_, _-_, _<_, _≤_}
+use Prim.Native.Nat.{ℕ, zero, suc, _+_, _*_, _-_, _≤_}
 use lib.Dec.{leb}
 use Rattle.geometry.specs.Words.{Point}
-
--- r is the root of n, rounded down
-pub record Root (n r : ℕ) : Type 0 where
-  pub below : r * r ≤ n
-  pub above : n < (r + 1) * (r + 1)
 
 -- w is the smallest whole number whose square is at least n
 pub record RootUp (n w : ℕ) : Type 0 where

@@ -7,8 +7,9 @@ use native.Mathlib.Omega.{arith}
 use native.Mathlib.Decide.{decLe}
 use lib.Dec.{leb}
 use borrow.Author.Tests.{le-leb, lt-leb}
-use Rattle.geometry.specs.Words.{Point, Near}
-use Rattle.geometry.specs.Length.{gap, lengthOf, rootUp, RootUp}
+use Rattle.geometry.specs.Words.{Point}
+use Rattle.geometry.specs.inner.Bounds.{InRange}
+use Rattle.lengths.specs.Length.{gap, lengthOf, rootUp, RootUp}
 
 pub root-one : (n v w : ℕ) → RootUp n v → RootUp n w → v ≡ w
 root-one n v w a b =
@@ -38,7 +39,7 @@ root-at n w lo hi = root-one n (rootUp n) (suc w) (root-is n) (record { enough =
     above v h (no p) = omega arith
 
 -- a coordinate of the yard is at most 32,767, so that no segment is longer than 46,340
-pub length-bound : (p q : Point) → Near p → Near q → lengthOf p q ≤ 46340
+pub length-bound : (p q : Point) → InRange p → InRange q → lengthOf p q ≤ 46340
 unfolding lengthOf
 length-bound p q a b =
     let e : gap (p .east) (q .east) ≤ 32767 = omega (arith, a .east, b .east) in

@@ -1,10 +1,8 @@
 -- What the search keeps of the sides that it has passed: the turns of both ends of a segment against a side are x and y.
 use mathlib.Core.Path.{_≡_}
-use mathlib.Core.Bool.{Bool, true, false}
-use mathlib.Core.Logic.{_⊎_}
 use Prim.Native.Nat.{ℕ, suc, _+_, _<_, _≤_}
 use lib.IntN.{ℤ, pos, natAbs, _+ℤ_, _-ℤ_, _*ℤ_}
-use lib.Signed.{_<ℤ_, _≤ℤ_}
+use lib.Signed.{_<ℤ_}
 
 -- |z| ≤ k; a record, so that k and z are found from a proof
 pub record Within (k : ℕ) (z : ℤ) : Type 0 where
@@ -29,24 +27,18 @@ pub record Span (m : ℕ) (x y : ℕ → ℤ) (l r p q : ℤ) : Type 0 where
   pub all : (u s : ℕ) → 1 ≤ u + s → In u s l r → In u s p q → Inside m x y u s
   pub only : (u s : ℕ) → 1 ≤ u + s → Inside m x y u s → In u s l r × In u s p q
 
--- a turn is at most 2^31 in size, so that a product of two fits 64 bits
+-- a turn is at most 2,200,000,000 in size, so that a product of two fits 64 bits
 pub record Small (l r p q : ℤ) : Type 0 where
-  pub small-l : Within 2147483648 l
-  pub small-r : Within 2147483648 r
-  pub small-p : Within 2147483648 p
-  pub small-q : Within 2147483648 q
+  pub small-l : Within 2200000000 l
+  pub small-r : Within 2200000000 r
+  pub small-p : Within 2200000000 p
+  pub small-q : Within 2200000000 q
 
 -- the two kept sides after one more side (x, y)
 pub record Narrowed (l r p q x y l′ r′ p′ q′ : ℤ) : Type 0 where
   pub small : Small l′ r′ p′ q′
   pub span : (m : ℕ) (f g : ℕ → ℤ) → f m ≡ x → g m ≡ y → Span m f g l r p q → Span (suc m) f g l′ r′ p′ q′
 
--- t says whether some point of the segment is left of both kept sides
-pub record Opens (l r p q : ℤ) (t : Bool) : Type 0 where
-  pub yes′ : t ≡ true → (m : ℕ) (f g : ℕ → ℤ) → Span m f g l r p q → Enters m f g
-  pub no′ : t ≡ false → (m : ℕ) (f g : ℕ → ℤ) → Span m f g l r p q → Enters m f g → ⊥
-
--- t says whether one of the two turns is above 0
-pub record Either (x y : ℤ) (t : Bool) : Type 0 where
-  pub some : t ≡ true → (pos 0 <ℤ x) ⊎ (pos 0 <ℤ y)
-  pub none : t ≡ false → (x ≤ℤ pos 0) × (y ≤ℤ pos 0)
+-- some point of the segment is left of two sides, whose turns are (l, r) and (p, q)
+unfoldable pub Meets : ℤ → ℤ → ℤ → ℤ → Type 0
+Meets l r p q = (u : ℕ) × (s : ℕ) × (1 ≤ u + s) × In u s l r × In u s p q

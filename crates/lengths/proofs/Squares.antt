@@ -3,7 +3,8 @@ use Prim.Native.Nat.{ℕ, _+_, _*_, _/_, _^_, _≤_, _<_}
 use native.Mathlib.Omega.{arith}
 use native.Mathlib.Nat.{mul-le-mul}
 use native.Mathlib.Decide.{decLe, decLt}
-use Rattle.geometry.specs.Length.{Root, RootUp}
+use Rattle.lengths.specs.Length.{RootUp}
+use Rattle.lengths.specs.inner.Roots.{Root}
 
 -- the order of squares
 pub square-lt : (a b : ℕ) → a * a < b * b → a < b

@@ -1,7 +1,5 @@
-use Rattle.geometry.proofs.square.Statement.{statement}
-use Rattle.geometry.proofs.square.Tie as tie
-use Rattle.geometry.proofs.square.Reads as reads
-use Rattle.geometry.proofs.square.Lts as lts
+use Rattle.lengths.proofs.square.Statement.{statement}
+use Rattle.lengths.proofs.square.Tie as tie
 use native.Mathlib.Omega.{arith}
 use native.Mathlib.Nat.{mul-le-mul}
 
@@ -12,4 +10,8 @@ returns : tie.Need-returns
 returns c = omega (arith, mul-le-mul (c .pre) (c .pre))
 
 pub square-spec : {M : Type 1} → statement M
-square-spec = tie.close (tie.spec mul-result returns)
+square-spec =
+    tie.close
+    (tie.spec
+    mul-result
+    returns)

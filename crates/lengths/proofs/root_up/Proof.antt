@@ -1,21 +1,12 @@
 use mathlib.Core.Path.{_≡_, subst}
 use Prim.Native.Nat.{ℕ, _*_}
 use native.Mathlib.Omega.{arith}
-use Rattle.geometry.specs.Length.{RootUp}
-use Rattle.geometry.proofs.Squares.{root-small, least-above, least-exact}
-use Rattle.geometry.proofs.Roots.{root-one, root-is}
+use Rattle.lengths.specs.Length.{RootUp}
+use Rattle.lengths.proofs.Squares.{root-small, least-above, least-exact}
+use Rattle.lengths.proofs.Roots.{root-one, root-is}
 use borrow.Author.Needs.{needs}
-use Rattle.geometry.proofs.root_up.Statement.{statement}
-use Rattle.geometry.proofs.root_up.Tie as tie
-use Rattle.geometry.proofs.root_up.Reads as reads
-use Rattle.geometry.proofs.root_up.Lts as lts
-use Rattle.geometry.proofs.root.Reads as root-reads
-
-root-requires : tie.Need-root-requires
-root-requires c κs = search needs
-
-mul-if1 : tie.Need-mul-if1
-mul-if1 c = search needs
+use Rattle.lengths.proofs.root_up.Statement.{statement}
+use Rattle.lengths.proofs.root_up.Tie as tie
 
 add-result : tie.Need-add-result
 add-result c = omega (arith, root-small _ _ (c .before .root .ensures) (omega arith))
@@ -31,4 +22,11 @@ returns-2 c =
     root-one _ _ _ (subst (λ (n : ℕ). RootUp n r) e (least-exact r)) (root-is _)
 
 pub root-up-spec : {M : Type 1} → statement M
-root-up-spec = tie.close (tie.spec root-requires mul-if1 add-result returns returns-2)
+root-up-spec =
+    tie.close
+    (tie.spec
+    (λ c κs. search needs)
+    (λ c. search needs)
+    add-result
+    returns
+    returns-2)

@@ -1,13 +1,13 @@
 use Prim.Native.Nat.{ℕ, _<_}
 use native.Mathlib.Omega.{arith}
-use Rattle.geometry.proofs.Squares.{root-step, quarter-small, quarter-square}
+use Rattle.lengths.proofs.Squares.{root-step, quarter-small, quarter-square}
 use borrow.Fn.Kinds.{In}
 use borrow.Fn.PlainCycle.{Measures, is, falls, and}
-use Rattle.geometry.proofs.root.Reads as root
-use Rattle.geometry.proofs.root.Kinds as root-kinds
-use Rattle.geometry.proofs.+root.Lts-root as root-lts
-use Rattle.geometry.proofs.+root.{statement}
-use Rattle.geometry.proofs.+root.Tie.{close}
+use Rattle.lengths.proofs.root.Reads as root
+use Rattle.lengths.proofs.root.Kinds as root-kinds
+use Rattle.lengths.proofs.+root.Lts-root as root-lts
+use Rattle.lengths.proofs.+root.{statement}
+use Rattle.lengths.proofs.+root.Tie.{close}
 
 abbrev μ-root : Measures 0 root-kinds.ps ℕ
 μ-root κs a = a .0
