@@ -4,16 +4,18 @@ use mathlib.Core.List.{List, [], _∷_}
 use mathlib.Core.Bool.{Bool, true, false}
 use Prim.Native.Nat.{ℕ, _+_, _*_, _-_, _%_, _<_, _≤_}
 use native.Mathlib.Omega.{arith}
-use lib.Dec.{leb, eqb}
+use lib.Dec.{eqb}
 use lib.ListN.{length, take, drop}
 use borrow.Author.Tests.{le-leb, lt-leb, eq-eqb, ne-eqb}
 use Rattle.geometry.proofs.Searching.{part-is}
-use Rattle.geometry.specs.Words.{Point, word, blockWords, corners, BoundedRecord}
-use Rattle.geometry.specs.Convexity.{allBelow, convex}
+use Rattle.geometry.specs.Words.{Point, word, blockWords, corners}
+use Rattle.geometry.specs.inner.Bounds.{BoundedRecord}
+use Rattle.geometry.specs.Convexity.{convex}
+use Rattle.lists.specs.Lists.{allBelow, all}
 use Rattle.tables.specs.Tables.{stored, runWords}
 use Rattle.tables.proofs.Splices.{part-length}
-use Rattle.records.specs.Questions.{all, countRight, coordinateRight, placeRight, zeroFrom, blockRight, runRight, recordsRight}
-use Rattle.records.proofs.Every.{right-bound}
+use Rattle.records.specs.Questions.{countRight, coordinateRight, placeRight, zeroFrom, blockRight, runRight, recordsRight}
+use Rattle.records.proofs.Loops.{right-bound}
 
 module _ (ws : List ℕ) where
   pub count-few : length ws < 6 → false ≡ countRight ws
@@ -30,9 +32,6 @@ module _ (ws : List ℕ) where
 
 pub east-wrong : (p : Point) → 32767 < p .east → false ≡ placeRight p
 east-wrong p h = rw (lt-leb (p .east) 32767 h)
-
-pub east-right : (p : Point) → p .east ≤ 32767 → leb (p .north) 32767 ≡ placeRight p
-east-right p h = rw (le-leb (p .east) 32767 h)
 
 -- the first word is a coordinate where it is small
 pub all-rest : (ws : List ℕ) (t : Bool) → word ws 0 ≤ 32767 → t ≡ all coordinateRight ws → t ≡ all coordinateRight (drop 1 ws)

@@ -14,7 +14,7 @@ use Rattle.geometry.specs.Words.{word}
 use Rattle.tables.specs.Written.{blockRecord}
 use Rattle.tables.proofs.Splices.{word-zeros, words-again, places-length}
 use Rattle.records.specs.Questions.{countRight, lentPlaces}
-use Rattle.records.proofs.Every.{both}
+use Rattle.lists.proofs.Every.{both}
 
 -- zeros behind a list are what reading past its end gives
 padded : (ws : List ℕ) (n k : ℕ) → word (ws ++ replicate n 0) k ≡ word ws k

@@ -1,8 +1,8 @@
 -- Records that question 2 allows are what the layers under the calls ask.
-use mathlib.Core.Path.{_≡_, refl, ap}
+use mathlib.Core.Path.{_≡_, ap}
 use mathlib.Core.Logic.{_⊎_, inl, inr}
 use mathlib.Core.List.{List}
-use mathlib.Core.Bool.{Bool, true, false, _&&_, _||_}
+use mathlib.Core.Bool.{Bool, true, _&&_}
 use Prim.Native.Nat.{ℕ, _+_, _*_, _-_, _/_, _<_, _≤_}
 use native.Mathlib.Omega.{arith}
 use native.Mathlib.Decide.{ℕ-discrete}
@@ -10,17 +10,17 @@ use lib.Dec.{leb, eqb}
 use lib.ListN.{length, drop, length-drop}
 use lib.Seq.{getD-drop}
 use borrow.Author.Tests.{leb-true, eqb-true}
-use Rattle.geometry.specs.Words.{word, blockWords, corners, BoundedRecord}
-use Rattle.geometry.specs.Convexity.{allBelow, convex}
-use Rattle.geometry.proofs.Below.{all-at}
-use Rattle.tables.specs.Tables.{Records, runWords, Fit}
+use Rattle.geometry.specs.Words.{word, blockWords, corners}
+use Rattle.geometry.specs.inner.Bounds.{BoundedRecord}
+use Rattle.geometry.specs.Convexity.{convex}
+use Rattle.lists.specs.Lists.{allBelow, all}
+use Rattle.lists.proofs.Below.{all-at}
+use Rattle.lists.proofs.Every.{both, or-cases}
+use Rattle.tables.specs.Tables.{Records, runWords}
+use Rattle.tables.specs.inner.Fit.{Fit}
 use Rattle.tables.proofs.Splices.{part-length, word-in, block-first, run-first}
-use Rattle.records.specs.Questions.{all, coordinateRight, zeroFrom, blockRight, runRight, recordsRight}
-use Rattle.records.proofs.Every.{both, right-bound, zero-word}
-
-pub or-cases : (a b : Bool) → a || b ≡ true → (a ≡ true) ⊎ (b ≡ true)
-or-cases true b h = inl refl
-or-cases false b h = inr h
+use Rattle.records.specs.Questions.{coordinateRight, zeroFrom, blockRight, runRight, recordsRight}
+use Rattle.records.proofs.Loops.{right-bound, zero-word}
 
 -- a word of the rest of a record
 rest-bound : (ws : List ℕ) (k : ℕ) → word ws 0 ≤ 32767 → all coordinateRight (drop 1 ws) ≡ true → k < length ws → word ws k ≤ 32767
@@ -34,21 +34,21 @@ rest-bound ws k z a l = go (ℕ-discrete k 0)
         omega (arith, getD-drop 1 ws (k - 1) 0, ap (λ (x : ℕ). word ws x) q)
 
 -- what question 2 says of a standing block
-pub record Standing (ws : List ℕ) : Type 0 where
+pub record StandingRecord (ws : List ℕ) : Type 0 where
   pub low : 3 ≤ word ws 0
   pub high : word ws 0 ≤ 8
   pub unused : zeroFrom ws (1 + 2 * word ws 0) ≡ true
   pub rest : all coordinateRight (drop 1 ws) ≡ true
   pub turns : convex (corners ws) ≡ true
 
-pub block-cases : (ws : List ℕ) → blockRight ws ≡ true → (zeroFrom ws 0 ≡ true) ⊎ Standing ws
+pub block-cases : (ws : List ℕ) → blockRight ws ≡ true → (zeroFrom ws 0 ≡ true) ⊎ StandingRecord ws
 unfolding blockRight
 block-cases ws h = go (or-cases (zeroFrom ws 0) standing h)
   where
     standing : Bool
     standing = leb 3 (word ws 0) && leb (word ws 0) 8 && zeroFrom ws (1 + 2 * word ws 0) && all coordinateRight (drop 1 ws) && convex (corners ws)
 
-    go : (zeroFrom ws 0 ≡ true) ⊎ (standing ≡ true) → (zeroFrom ws 0 ≡ true) ⊎ Standing ws
+    go : (zeroFrom ws 0 ≡ true) ⊎ (standing ≡ true) → (zeroFrom ws 0 ≡ true) ⊎ StandingRecord ws
     go (inl z) = inl z
     go (inr s) =
         let s₁ = both (leb 3 (word ws 0) && leb (word ws 0) 8 && zeroFrom ws (1 + 2 * word ws 0) && all coordinateRight (drop 1 ws)) (convex (corners ws)) s in
@@ -60,7 +60,7 @@ block-cases ws h = go (or-cases (zeroFrom ws 0) standing h)
 pub block-fit : (ws : List ℕ) → length ws ≡ 17 → blockRight ws ≡ true → BoundedRecord ws
 block-fit ws l h = go (block-cases ws h)
   where
-    go : (zeroFrom ws 0 ≡ true) ⊎ Standing ws → BoundedRecord ws
+    go : (zeroFrom ws 0 ≡ true) ⊎ StandingRecord ws → BoundedRecord ws
     go (inl z) =
         let e : (i : ℕ) → i < 17 → word ws i ≡ 0 = λ i b. zero-word ws 0 i z (omega arith) (omega arith) in
         record { sized = l; count = omega (arith, e 0 (omega arith)); coordinates = λ i b. omega (arith, e i b) }

@@ -1,5 +1,5 @@
-pub mod Every
+pub mod Loops
 pub mod Answers
 pub mod Fits
 pub mod Filled
-pub mod Shifting
+pub mod Places

@@ -1,18 +1,15 @@
 -- Questions 2, 6, 7 and 8 as tests of words and places. Document 01, "Calls and the questions put to them".
-use mathlib.Core.List.{List, [], _∷_, map}
-use mathlib.Core.Bool.{Bool, true, _&&_, _||_}
+use mathlib.Core.List.{List}
+use mathlib.Core.Bool.{Bool, _&&_, _||_}
 use Prim.Native.Nat.{ℕ, _+_, _*_, _/_, _%_}
 use lib.Dec.{leb, eqb}
 use lib.IntN.{ℤ, pos, natAbs, _+ℤ_}
 use lib.Signed.{leZ}
 use lib.ListN.{length, drop}
 use Rattle.geometry.specs.Words.{Point, point, word, blockWords, placesFrom, corners}
-use Rattle.geometry.specs.Convexity.{allBelow, convex}
+use Rattle.geometry.specs.Convexity.{convex}
+use Rattle.lists.specs.Lists.{all, allBelow}
 use Rattle.tables.specs.Tables.{Records, runWords}
-
-unfoldable pub all : {A : Type 0} → (A → Bool) → List A → Bool
-all p [] = true
-all p (x ∷ xs) = p x && all p xs
 
 -- 6: whole corners, 3 to 8 of them
 unfoldable pub countRight : List ℕ → Bool
@@ -25,11 +22,12 @@ coordinateRight v = leb v 32767
 abbrev pub placeRight : Point → Bool
 placeRight p = coordinateRight (p .east) && coordinateRight (p .north)
 
--- 7 of a place that is moved by a displacement
+-- 7 of a coordinate, and of a place, that is moved by a displacement
+unfoldable pub landsRight : ℕ → ℤ → Bool
+landsRight at by = leZ (pos 0) (pos at +ℤ by) && leZ (pos at +ℤ by) (pos 32767)
+
 unfoldable pub shiftRight : ℤ → ℤ → Point → Bool
-shiftRight de dn p =
-    leZ (pos 0) (pos (p .east) +ℤ de) && leZ (pos (p .east) +ℤ de) (pos 32767)
-    && leZ (pos 0) (pos (p .north) +ℤ dn) && leZ (pos (p .north) +ℤ dn) (pos 32767)
+shiftRight de dn p = landsRight (p .east) de && landsRight (p .north) dn
 
 -- the place moved
 abbrev pub shifted : ℤ → ℤ → Point → Point

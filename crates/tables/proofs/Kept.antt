@@ -10,7 +10,8 @@ use lib.Dec.{ltb, leb, eqb}
 use lib.ListN.{length, getD}
 use borrow.Author.Tests.{lt-leb, lt-ltb, le-ltb}
 use Rattle.geometry.specs.Words.{Point, word, blockWords}
-use Rattle.tables.specs.Tables.{Records, splice, runWords, isCorner, isEnd, present, placeOf, OnBlock, OnRun}
+use Rattle.tables.specs.Tables.{Records, runWords, isCorner, isEnd, present, placeOf, OnBlock, OnRun}
+use Rattle.lists.specs.Lists.{splice}
 use Rattle.tables.specs.Written.{blockRecord, runRecord}
 use Rattle.tables.proofs.Splices.{splice-length, splice-before, splice-after, splice-here, part-ext, blockRecord-length}
 

@@ -2,3 +2,6 @@ pub mod Pairs
 pub mod Splices
 pub mod Kept
 pub mod Marks
+pub mod Replacing
+pub mod Joined
+pub mod Places

@@ -7,8 +7,10 @@ use native.Mathlib.Omega.{arith}
 use native.Mathlib.Decide.{decLt}
 use lib.Dec.{ltb, eqb}
 use borrow.Author.Tests.{lt-ltb, le-ltb, le-leb, lt-leb}
-use Rattle.geometry.specs.Words.{word, placeAt, Near}
-use Rattle.tables.specs.Tables.{Records, stored, isCorner, isEnd, present, placeOf, pairIndex, pairByte, Fit}
+use Rattle.geometry.specs.Words.{word, placeAt}
+use Rattle.geometry.specs.inner.Bounds.{InRange}
+use Rattle.tables.specs.Tables.{Records, stored, isCorner, isEnd, present, placeOf, pairIndex, pairByte}
+use Rattle.tables.specs.inner.Fit.{Fit}
 
 module _ (blocks : List ℕ) (i : ℕ) where
   pub corner-past : 192 ≤ i → false ≡ isCorner blocks i
@@ -59,11 +61,11 @@ module _ (pairs : List ℕ) (i j at : ℕ) where
   byte-down h e = rw (le-ltb i j h, e)
 
 -- every mark's place is near, so that no product of turns leaves 64 bits
-pub place-near : (R : Records) (i : ℕ) → Fit R → i < 240 → Near (placeOf R i)
+pub place-in-range : (R : Records) (i : ℕ) → Fit R → i < 240 → InRange (placeOf R i)
 unfolding placeOf
-place-near R i f h = go (decLt i 192)
+place-in-range R i f h = go (decLt i 192)
   where
-    go : Dec (i < 192) → Near (placeOf R i)
+    go : Dec (i < 192) → InRange (placeOf R i)
     go (yes l) =
         rw (lt-ltb i 192 l)
         (record {

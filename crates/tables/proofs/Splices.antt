@@ -7,7 +7,8 @@ use native.Mathlib.Omega.{arith}
 use lib.ListN.{length, getD, take, drop, replicate, length-append, length-take, length-drop, length-replicate, getD-replicate, List·getD-append}
 use lib.Seq.{getD-take, getD-drop, ext-getD, getD-append-add, length-take-le, take-at, drop-at}
 use Rattle.geometry.specs.Words.{Point, word, placesFrom, blockWords, corners}
-use Rattle.tables.specs.Tables.{splice, runWords, routeWords}
+use Rattle.tables.specs.Tables.{runWords, routeWords}
+use Rattle.lists.specs.Lists.{splice}
 use Rattle.tables.specs.Written.{placeWords, blockRecord, runRecord}
 pub use Rattle.geometry.proofs.Corners.{places-length}
 pub use Rattle.geometry.proofs.Searching.{block-word}

@@ -1,11 +1,10 @@
 -- The four tables, their records and marks. Document 01, "What the yard holds".
-use mathlib.Core.Path.{_≡_}
-use mathlib.Core.List.{List, _++_}
+use mathlib.Core.List.{List}
 use mathlib.Core.Bool.{Bool, _&&_, _||_, cond}
 use Prim.Native.Nat.{ℕ, _+_, _*_, _-_, _/_, _%_, _<_, _≤_}
 use lib.Dec.{ltb, leb, eqb}
-use lib.ListN.{length, take, drop}
-use Rattle.geometry.specs.Words.{Point, word, placeAt, Bounded}
+use lib.ListN.{take, drop}
+use Rattle.geometry.specs.Words.{Point, word, placeAt}
 
 pub record Tables : Type 0 where
   pub blocks : List ℕ
@@ -33,10 +32,6 @@ runWords runs m = take 5 (drop (5 * m) runs)
 
 abbrev pub routeWords : List ℕ → ℕ → List ℕ
 routeWords routes m = take 197 (drop (197 * m) routes)
-
--- the table with the words from a place on replaced by others
-unfoldable pub splice : List ℕ → ℕ → List ℕ → List ℕ
-splice t at ws = take at t ++ (ws ++ drop (at + length ws) t)
 
 -- mark 8 n + k is present as corner k of block n
 unfoldable pub isCorner : List ℕ → ℕ → Bool
@@ -76,13 +71,3 @@ OnBlock n i = (8 * n ≤ i) × (i < 8 * n + 8)
 
 abbrev pub OnRun : ℕ → ℕ → Type 0
 OnRun m i = (192 + 2 * m ≤ i) × (i < 194 + 2 * m)
-
--- what the layers under the calls ask of the run table, and of both record tables; question 2 ensures it
-pub record BoundedRuns (runs : List ℕ) : Type 0 where
-  pub sized : length runs ≡ 120
-  pub flags : (m : ℕ) → m < 24 → word runs (5 * m) ≤ 1
-  pub coordinates : (i : ℕ) → i < 120 → word runs i ≤ 32767
-
-pub record Fit (R : Records) : Type 0 where
-  pub blocks : Bounded (R .blocks)
-  pub runs : BoundedRuns (R .runs)

@@ -1,6 +1,6 @@
 // The layout of the four tables: marks, their places, and where the byte of two marks stands.
 ghost use mathlib.Core.Path.{_≡_};
-ghost use Prim.Native.Nat.{ℕ, _+_, _*_, _<_, _≤_};
+ghost use Prim.Native.Nat.{_+_, _*_, _<_};
 ghost use lib.ListN.{length};
 ghost use Rattle.geometry.specs.Words.{pointOf, placeAt};
 ghost use Rattle.tables.specs.Tables.{stored, isCorner, isEnd, present, placeOf, pairIndex, pairByte};

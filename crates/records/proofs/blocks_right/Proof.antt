@@ -1,8 +1,8 @@
 use Rattle.records.proofs.Answers.{block-lent-length, block-answer}
 use Rattle.records.specs.Questions.{blockRight}
 use Rattle.geometry.specs.Words.{blockWords}
-use Rattle.geometry.proofs.Below.{all-none, all-next, all-done, all-failed}
-use Rattle.geometry.specs.Convexity.{allBelow}
+use Rattle.lists.proofs.Below.{all-none, all-next, all-done, all-failed}
+use Rattle.lists.specs.Lists.{allBelow}
 use Prim.Native.Nat.{_-_, _≤_}
 use mathlib.Core.Bool.{true}
 use mathlib.Core.Path.{_≡_}
@@ -20,35 +20,8 @@ abbrev μ-loop : tie.MeasureT-loop
 loop-holds : tie.Need-loop-holds Inv-loop μ-loop
 loop-holds c = (omega arith, all-none _)
 
-mul-block-right : tie.Need-mul-block-right Inv-loop μ-loop
-mul-block-right c = search needs
-
-mul-block-right-2 : tie.Need-mul-block-right-2 Inv-loop μ-loop
-mul-block-right-2 c = search needs
-
-add-block-right : tie.Need-add-block-right Inv-loop μ-loop
-add-block-right c = search needs
-
-mul-block-right-3 : tie.Need-mul-block-right-3 Inv-loop μ-loop
-mul-block-right-3 c = search needs
-
-sub-block-right : tie.Need-sub-block-right Inv-loop μ-loop
-sub-block-right c = search needs
-
-part-block-right-start : tie.Need-part-block-right-start Inv-loop μ-loop
-part-block-right-start c = search needs
-
-part-block-right-end : tie.Need-part-block-right-end Inv-loop μ-loop
-part-block-right-end c = search needs
-
 block-right-requires : tie.Need-block-right-requires Inv-loop μ-loop
 block-right-requires c κs = search block-lent-length
-
-add-n : tie.Need-add-n Inv-loop μ-loop
-add-n c = search needs
-
-loop-less : tie.Need-loop-less Inv-loop μ-loop
-loop-less c = search needs
 
 loop-again : tie.Need-loop-again Inv-loop μ-loop
 loop-again c = (omega arith, search (all-next, block-answer))
@@ -66,16 +39,16 @@ blocks-right-spec =
     Inv-loop
     μ-loop
     loop-holds
-    mul-block-right
-    mul-block-right-2
-    add-block-right
-    mul-block-right-3
-    sub-block-right
-    part-block-right-start
-    part-block-right-end
+    (λ c. search needs)
+    (λ c. search needs)
+    (λ c. search needs)
+    (λ c. search needs)
+    (λ c. search needs)
+    (λ c. search needs)
+    (λ c. search needs)
     block-right-requires
-    add-n
-    loop-less
+    (λ c. search needs)
+    (λ c. search needs)
     loop-again
     returns
     returns-2)

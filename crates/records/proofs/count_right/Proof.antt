@@ -12,4 +12,9 @@ returns-3 : tie.Need-returns-3
 returns-3 c = search count-whole
 
 pub count-right-spec : {M : Type 1} → statement M
-count-right-spec = tie.close (tie.spec returns returns-2 returns-3)
+count-right-spec =
+    tie.close
+    (tie.spec
+    returns
+    returns-2
+    returns-3)

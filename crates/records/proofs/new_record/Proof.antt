@@ -15,32 +15,8 @@ abbrev μ-loop : tie.MeasureT-loop
 cast-made : tie.Need-cast-made Inv-loop μ-loop
 cast-made c = omega (arith, count-facts (c .args .corners .now) (c .pre) .high)
 
-array-write-made : tie.Need-array-write-made Inv-loop μ-loop
-array-write-made c = search needs
-
 loop-holds : tie.Need-loop-holds Inv-loop μ-loop
 loop-holds c = (omega arith, count-facts _ (c .pre) .high, filled-none _)
-
-mul-made : tie.Need-mul-made Inv-loop μ-loop
-mul-made c = search needs
-
-shared-slice-read-made : tie.Need-shared-slice-read-made Inv-loop μ-loop
-shared-slice-read-made c = search needs
-
-add-made : tie.Need-add-made Inv-loop μ-loop
-add-made c = search needs
-
-mul-made-2 : tie.Need-mul-made-2 Inv-loop μ-loop
-mul-made-2 c = search needs
-
-array-write-made-2 : tie.Need-array-write-made-2 Inv-loop μ-loop
-array-write-made-2 c = search needs
-
-add-i : tie.Need-add-i Inv-loop μ-loop
-add-i c = search needs
-
-loop-less : tie.Need-loop-less Inv-loop μ-loop
-loop-less c = search needs
 
 loop-again : tie.Need-loop-again Inv-loop μ-loop
 loop-again c = (omega arith, omega arith, filled-next _ _ _ (omega arith) (c .before .before .loop .inv .2))
@@ -55,14 +31,14 @@ new-record-spec =
     Inv-loop
     μ-loop
     cast-made
-    array-write-made
+    (λ c. search needs)
     loop-holds
-    mul-made
-    shared-slice-read-made
-    add-made
-    mul-made-2
-    array-write-made-2
-    add-i
-    loop-less
+    (λ c. search needs)
+    (λ c. search needs)
+    (λ c. search needs)
+    (λ c. search needs)
+    (λ c. search needs)
+    (λ c. search needs)
+    (λ c. search needs)
     loop-again
     returns)

@@ -10,4 +10,8 @@ returns-2 : tie.Need-returns-2
 returns-2 c = rw (le-leb _ 32767 (c .before .if1 .left))
 
 pub place-right-spec : {M : Type 1} → statement M
-place-right-spec = tie.close (tie.spec returns returns-2)
+place-right-spec =
+    tie.close
+    (tie.spec
+    returns
+    returns-2)

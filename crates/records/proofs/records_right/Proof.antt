@@ -3,12 +3,6 @@ use borrow.Author.Needs.{needs}
 use Rattle.records.proofs.records_right.Statement.{statement}
 use Rattle.records.proofs.records_right.Tie as tie
 
-blocks-right-requires : tie.Need-blocks-right-requires
-blocks-right-requires c κs = search needs
-
-runs-right-requires : tie.Need-runs-right-requires
-runs-right-requires c κs = search needs
-
 returns : tie.Need-returns
 returns c = search records-yes
 
@@ -17,4 +11,9 @@ returns-2 c = search records-no
 
 pub records-right-spec : {M : Type 1} → statement M
 records-right-spec =
-    tie.close (tie.spec blocks-right-requires runs-right-requires returns returns-2)
+    tie.close
+    (tie.spec
+    (λ c κs. search needs)
+    (λ c κs. search needs)
+    returns
+    returns-2)

@@ -1,8 +1,8 @@
 use Rattle.records.proofs.Answers.{run-lent-length, run-answer}
 use Rattle.records.specs.Questions.{runRight}
 use Rattle.tables.specs.Tables.{runWords}
-use Rattle.geometry.proofs.Below.{all-none, all-next, all-done, all-failed}
-use Rattle.geometry.specs.Convexity.{allBelow}
+use Rattle.lists.proofs.Below.{all-none, all-next, all-done, all-failed}
+use Rattle.lists.specs.Lists.{allBelow}
 use Prim.Native.Nat.{_-_, _≤_}
 use mathlib.Core.Bool.{true}
 use mathlib.Core.Path.{_≡_}
@@ -20,35 +20,8 @@ abbrev μ-loop : tie.MeasureT-loop
 loop-holds : tie.Need-loop-holds Inv-loop μ-loop
 loop-holds c = (omega arith, all-none _)
 
-mul-run-right : tie.Need-mul-run-right Inv-loop μ-loop
-mul-run-right c = search needs
-
-mul-run-right-2 : tie.Need-mul-run-right-2 Inv-loop μ-loop
-mul-run-right-2 c = search needs
-
-add-run-right : tie.Need-add-run-right Inv-loop μ-loop
-add-run-right c = search needs
-
-mul-run-right-3 : tie.Need-mul-run-right-3 Inv-loop μ-loop
-mul-run-right-3 c = search needs
-
-sub-run-right : tie.Need-sub-run-right Inv-loop μ-loop
-sub-run-right c = search needs
-
-part-run-right-start : tie.Need-part-run-right-start Inv-loop μ-loop
-part-run-right-start c = search needs
-
-part-run-right-end : tie.Need-part-run-right-end Inv-loop μ-loop
-part-run-right-end c = search needs
-
 run-right-requires : tie.Need-run-right-requires Inv-loop μ-loop
 run-right-requires c κs = search run-lent-length
-
-add-m : tie.Need-add-m Inv-loop μ-loop
-add-m c = search needs
-
-loop-less : tie.Need-loop-less Inv-loop μ-loop
-loop-less c = search needs
 
 loop-again : tie.Need-loop-again Inv-loop μ-loop
 loop-again c = (omega arith, search (all-next, run-answer))
@@ -66,16 +39,16 @@ runs-right-spec =
     Inv-loop
     μ-loop
     loop-holds
-    mul-run-right
-    mul-run-right-2
-    add-run-right
-    mul-run-right-3
-    sub-run-right
-    part-run-right-start
-    part-run-right-end
+    (λ c. search needs)
+    (λ c. search needs)
+    (λ c. search needs)
+    (λ c. search needs)
+    (λ c. search needs)
+    (λ c. search needs)
+    (λ c. search needs)
     run-right-requires
-    add-m
-    loop-less
+    (λ c. search needs)
+    (λ c. search needs)
     loop-again
     returns
     returns-2)

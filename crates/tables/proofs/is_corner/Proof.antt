@@ -8,15 +8,6 @@ use Rattle.tables.proofs.is_corner.Tie as tie
 returns : tie.Need-returns
 returns c = search corner-past
 
-mul-result : tie.Need-mul-result
-mul-result c = search needs
-
-mul-result-2 : tie.Need-mul-result-2
-mul-result-2 c = search needs
-
-shared-slice-read-result : tie.Need-shared-slice-read-result
-shared-slice-read-result c = search needs
-
 cast-result : tie.Need-cast-result
 cast-result c = omega (arith, c .shared-slice-known .given (17 * (c .before .before .args .i / 8)))
 
@@ -26,4 +17,10 @@ returns-2 c = search corner-word
 pub is-corner-spec : {M : Type 1} → statement M
 is-corner-spec =
     tie.close
-    (tie.spec returns mul-result mul-result-2 shared-slice-read-result cast-result returns-2)
+    (tie.spec
+    returns
+    (λ c. search needs)
+    (λ c. search needs)
+    (λ c. search needs)
+    cast-result
+    returns-2)

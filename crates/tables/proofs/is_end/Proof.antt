@@ -9,19 +9,16 @@ returns c = search end-before
 returns-2 : tie.Need-returns-2
 returns-2 c = search end-past
 
-mul-result : tie.Need-mul-result
-mul-result c = search needs
-
-mul-result-2 : tie.Need-mul-result-2
-mul-result-2 c = search needs
-
-shared-slice-read-result : tie.Need-shared-slice-read-result
-shared-slice-read-result c = search needs
-
 returns-3 : tie.Need-returns-3
 returns-3 c = search end-word
 
 pub is-end-spec : {M : Type 1} → statement M
 is-end-spec =
     tie.close
-    (tie.spec returns returns-2 mul-result mul-result-2 shared-slice-read-result returns-3)
+    (tie.spec
+    returns
+    returns-2
+    (λ c. search needs)
+    (λ c. search needs)
+    (λ c. search needs)
+    returns-3)

@@ -5,9 +5,6 @@ use borrow.Author.Needs.{needs}
 use Rattle.tables.proofs.pair_index.Statement.{statement}
 use Rattle.tables.proofs.pair_index.Tie as tie
 
-sub-result : tie.Need-sub-result
-sub-result c = search needs
-
 mul-result : tie.Need-mul-result
 mul-result c = omega (arith, tri-twice (c .args .j), tri-in (c .args .i) (c .args .j) (c .pre .0) (c .pre .1))
 
@@ -18,4 +15,10 @@ returns : tie.Need-returns
 returns c = (refl, omega (arith, pair-in (c .args .i) (c .args .j) (c .pre .0) (c .pre .1)))
 
 pub pair-index-spec : {M : Type 1} → statement M
-pair-index-spec = tie.close (tie.spec sub-result mul-result add-result returns)
+pair-index-spec =
+    tie.close
+    (tie.spec
+    (λ c. search needs)
+    mul-result
+    add-result
+    returns)

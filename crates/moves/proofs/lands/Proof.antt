@@ -1,10 +1,7 @@
-use Rattle.records.proofs.Shifting.{moved-read, below-zero, from-zero, lands-below, lands-from}
+use Rattle.moves.proofs.Shifting.{moved-read, below-zero, from-zero, lands-below, lands-from}
 use borrow.Author.Needs.{needs}
-use Rattle.records.proofs.lands.Statement.{statement}
-use Rattle.records.proofs.lands.Tie as tie
-
-moved-requires : tie.Need-moved-requires
-moved-requires c κs = search needs
+use Rattle.moves.proofs.lands.Statement.{statement}
+use Rattle.moves.proofs.lands.Tie as tie
 
 returns : tie.Need-returns
 returns c =
@@ -18,4 +15,9 @@ returns-2 c =
     (lands-from (s .args .at) (s .args .by) (from-zero (c .before .moved .result) _ (moved-read (c .before .moved .result) (s .args .at) (s .args .by) (s .fits .by) (c .before .moved .ok) (c .before .moved .ensures)) (c .if1 .left)))
 
 pub lands-spec : {M : Type 1} → statement M
-lands-spec = tie.close (tie.spec moved-requires returns returns-2)
+lands-spec =
+    tie.close
+    (tie.spec
+    (λ c κs. search needs)
+    returns
+    returns-2)

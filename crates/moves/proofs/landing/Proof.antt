@@ -1,13 +1,10 @@
-use Rattle.records.proofs.Shifting.{moved-read, lands-positive, lands-small}
+use Rattle.moves.proofs.Shifting.{moved-read, lands-positive, lands-small}
 use lib.IntN.{natAbs}
 use native.Mathlib.Omega.{arith}
 use mathlib.Core.Path.{ap}
 use borrow.Author.Needs.{needs}
-use Rattle.records.proofs.landing.Statement.{statement}
-use Rattle.records.proofs.landing.Tie as tie
-
-moved-requires : tie.Need-moved-requires
-moved-requires c κs = search needs
+use Rattle.moves.proofs.landing.Statement.{statement}
+use Rattle.moves.proofs.landing.Tie as tie
 
 cast-result : tie.Need-cast-result
 cast-result c =
@@ -21,4 +18,9 @@ returns c =
     ap natAbs (moved-read (c .moved .result) (s .args .at) (s .args .by) (s .fits .by) (c .moved .ok) (c .moved .ensures))
 
 pub landing-spec : {M : Type 1} → statement M
-landing-spec = tie.close (tie.spec moved-requires cast-result returns)
+landing-spec =
+    tie.close
+    (tie.spec
+    (λ c κs. search needs)
+    cast-result
+    returns)

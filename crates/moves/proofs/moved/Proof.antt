@@ -1,17 +1,11 @@
-use Rattle.records.proofs.Shifting.{moved-fits}
+use Rattle.moves.proofs.Shifting.{moved-fits}
 use Rattle.geometry.proofs.Bound.{read}
 use mir.ValLaws.{toZ-ofZ}
 use mir.Syntax.{w16}
 use native.Mathlib.Omega.{arith}
 use borrow.Author.Needs.{needs}
-use Rattle.records.proofs.moved.Statement.{statement}
-use Rattle.records.proofs.moved.Tie as tie
-
-wide-requires : tie.Need-wide-requires
-wide-requires c κs = search needs
-
-signed-requires : tie.Need-signed-requires
-signed-requires c κs = search needs
+use Rattle.moves.proofs.moved.Statement.{statement}
+use Rattle.moves.proofs.moved.Tie as tie
 
 add-requires : tie.Need-add-requires
 add-requires c κs =
@@ -31,4 +25,10 @@ returns c =
     )
 
 pub moved-spec : {M : Type 1} → statement M
-moved-spec = tie.close (tie.spec wide-requires signed-requires add-requires returns)
+moved-spec =
+    tie.close
+    (tie.spec
+    (λ c κs. search needs)
+    (λ c κs. search needs)
+    add-requires
+    returns)

@@ -1,8 +1,8 @@
--- Tests of every element of a list, and what a loop over the words keeps.
-use mathlib.Core.Path.{_≡_, refl, sym, ap, _∙_}
-use mathlib.Core.List.{List, [], _∷_}
-use mathlib.Core.Bool.{Bool, true, false, _&&_, and-false, and-eq-true-iff}
-use Prim.Native.Nat.{ℕ, zero, suc, _+_, _-_, _<_, _≤_}
+-- What a loop over the words of a record keeps.
+use mathlib.Core.Path.{_≡_, sym, ap, _∙_}
+use mathlib.Core.List.{List}
+use mathlib.Core.Bool.{true, false}
+use Prim.Native.Nat.{ℕ, _+_, _-_, _<_, _≤_}
 use native.Mathlib.Omega.{arith}
 use native.Mathlib.Decide.{ℕ-discrete}
 use lib.Dec.{eqb}
@@ -10,28 +10,9 @@ use lib.ListN.{length, getD, drop, length-drop}
 use lib.Seq.{getD-drop}
 use borrow.Author.Tests.{le-leb, lt-leb, leb-true, eq-eqb, ne-eqb, eqb-true}
 use Rattle.geometry.specs.Words.{word}
-use Rattle.records.specs.Questions.{all, coordinateRight, zeroFrom}
-
-pub both : (a b : Bool) → a && b ≡ true → (a ≡ true) × (b ≡ true)
-both a b h = and-eq-true-iff a b .0 h
-
-module _ {A : Type 0} (p : A → Bool) where
-  pub every-yes : (xs : List A) (d : A) → ((k : ℕ) → k < length xs → p (getD xs k d) ≡ true) → all p xs ≡ true
-  unfolding all
-  every-yes [] d h = refl
-  every-yes (x ∷ xs) d h = rw (h 0 (omega arith), every-yes xs d (λ k l. h (suc k) (omega arith)))
-
-  pub every-no : (xs : List A) (k : ℕ) (d : A) → k < length xs → p (getD xs k d) ≡ false → all p xs ≡ false
-  unfolding all
-  every-no [] k d h e = absurd (omega arith)
-  every-no (x ∷ xs) zero d h e = rw e
-  every-no (x ∷ xs) (suc k) d h e = rw (every-no xs k d (omega arith) e) (and-false (p x))
-
-  pub every-at : (xs : List A) (k : ℕ) (d : A) → all p xs ≡ true → k < length xs → p (getD xs k d) ≡ true
-  unfolding all
-  every-at [] k d h l = absurd (omega arith)
-  every-at (x ∷ xs) zero d h l = both (p x) (all p xs) h .0
-  every-at (x ∷ xs) (suc k) d h l = every-at xs k d (both (p x) (all p xs) h .1) (omega arith)
+use Rattle.records.specs.Questions.{coordinateRight, zeroFrom}
+use Rattle.lists.specs.Lists.{all}
+use Rattle.lists.proofs.Every.{every-yes, every-no, every-at}
 
 -- the words below i are coordinates
 pub record RightTo (ws : List ℕ) (i : ℕ) : Type 0 where

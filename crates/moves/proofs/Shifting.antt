@@ -1,10 +1,10 @@
 -- Moved coordinates, and the record of a moved block filled corner by corner.
 use mathlib.Core.Path.{_≡_, refl, sym, ap, _∙_, subst}
-use mathlib.Core.List.{List, [], _∷_, _++_, map}
-use mathlib.Core.Bool.{Bool, true, false, _&&_, true≢false, and-false}
-use Prim.Native.Nat.{ℕ, zero, suc, _+_, _*_, _-_, _/_, _%_, _^_, _<_, _≤_}
+use mathlib.Core.List.{List, _∷_, map}
+use mathlib.Core.Bool.{true, false, _&&_, true≢false, and-false}
+use Prim.Native.Nat.{ℕ, zero, suc, _+_, _*_, _-_, _^_, _<_, _≤_}
 use native.Mathlib.Omega.{arith}
-use native.Mathlib.Decide.{decLt, ℕ-discrete}
+use native.Mathlib.Decide.{ℕ-discrete}
 use lib.Dec.{T, lit<, lit≤}
 use lib.IntN.{ℤ, pos, negsuc, negℤ, natAbs, _+ℤ_, _-ℤ_, negℤ-negℤ}
 use lib.Signed.{leZ, ltZ, mag, nonNeg, natAbs-le}
@@ -12,23 +12,19 @@ use mir.Syntax.{w16, w64}
 use mir.Val.{SFits, toZ, ofZ}
 use mir.ValLaws.{toZ-ofZ}
 use lib.ListN.{length, set, replicate, length-set, length-map}
-use lib.Seq.{getD-set-same, getD-set-other, ext-getD, getD-append-add}
+use lib.Seq.{getD-set-same, getD-set-other}
 use borrow.Author.Tests.{leb-true, ltb-true, le-leb}
 use Rattle.geometry.specs.Words.{Point, point, word, corners}
 use Rattle.geometry.specs.Obstruction.{cornerAt}
-use Rattle.geometry.specs.Sides.{Within}
-use Rattle.geometry.proofs.Bound.{read, within-pos, within-sub, within-fits}
-use Rattle.geometry.proofs.Corners.{corner-is}
-use Rattle.tables.specs.Written.{placeWords, blockRecord}
-use Rattle.tables.proofs.Splices.{word-zeros, places-length, placeWords-length, blockRecord-length}
-use Rattle.records.specs.Questions.{all, shiftRight, shifted}
-use Rattle.records.specs.Shifts.{landsRight}
-use Rattle.records.proofs.Every.{both, every-yes, every-no, every-at}
-
-abs-neg : (z : ℤ) → natAbs (negℤ z) ≡ natAbs z
-abs-neg (pos zero) = refl
-abs-neg (pos (suc n)) = refl
-abs-neg (negsuc n) = refl
+use Rattle.geometry.specs.inner.Sides.{Within}
+use Rattle.geometry.proofs.Bound.{read, abs-neg, within-pos, within-sub, within-fits}
+use Rattle.geometry.proofs.Corners.{corner-is, corner-map}
+use Rattle.tables.specs.Written.{blockRecord}
+use Rattle.tables.proofs.Splices.{word-zeros, places-length}
+use Rattle.tables.proofs.Places.{record-ext}
+use Rattle.records.specs.Questions.{landsRight, shiftRight, shifted}
+use Rattle.lists.specs.Lists.{all}
+use Rattle.lists.proofs.Every.{both, every-yes, every-no, every-at}
 
 -- a coordinate moved by a displacement fits
 pub moved-fits : (at : ℕ) (by : ℤ) → at ≤ 65535 → SFits w16 by → SFits w64 (pos at +ℤ by)
@@ -95,15 +91,6 @@ lands-small at by h =
     let b = both (leZ (pos 0) (pos at +ℤ by)) (leZ (pos at +ℤ by) (pos 32767)) h in
     abs-small (pos at +ℤ by) (b .0) (b .1)
 
-and-assoc : (a b c : Bool) → a && b && c ≡ a && (b && c)
-and-assoc true b c = refl
-and-assoc false b c = refl
-
-shift-lands : (de dn : ℤ) (e n : ℕ) → shiftRight de dn (point e n) ≡ landsRight e de && landsRight n dn
-unfolding shiftRight landsRight
-shift-lands de dn e n =
-    and-assoc (leZ (pos 0) (pos e +ℤ de) && leZ (pos e +ℤ de) (pos 32767)) (leZ (pos 0) (pos n +ℤ dn)) (leZ (pos n +ℤ dn) (pos 32767))
-
 -- the first k corners land
 pub record LandTo (de dn : ℤ) (ws : List ℕ) (k : ℕ) : Type 0 where
   pub each : (j : ℕ) → j < k → (landsRight (word ws (2 * j + 1)) de ≡ true) × (landsRight (word ws (2 * j + 2)) dn ≡ true)
@@ -120,7 +107,8 @@ module _ (de dn : ℤ) (ws : List ℕ) where
       go j h (no e) = l .each j (omega arith)
 
   corner-lands : (k : ℕ) → k < word ws 0 → shiftRight de dn (cornerAt (corners ws) k) ≡ landsRight (word ws (2 * k + 1)) de && landsRight (word ws (2 * k + 2)) dn
-  corner-lands k h = ap (λ (p : Point). shiftRight de dn p) (corner-is ws k h) ∙ shift-lands de dn (word ws (2 * k + 1)) (word ws (2 * k + 2))
+  unfolding shiftRight
+  corner-lands k h = ap (λ (p : Point). shiftRight de dn p) (corner-is ws k h)
 
   pub land-all : (count k : ℕ) → count ≡ word ws 0 → count ≤ k → LandTo de dn ws k → true ≡ all (shiftRight de dn) (corners ws)
   land-all count k e h l =
@@ -149,51 +137,6 @@ module _ (de dn : ℤ) (ws : List ℕ) where
   pub north-lands : (k : ℕ) → all (shiftRight de dn) (corners ws) ≡ true → k < word ws 0 → landsRight (word ws (2 * k + 2)) dn ≡ true
   north-lands k a h = lands-both k a h .1
 
--- the words of a record, by its places
-record-even : (ps : List Point) (zs : List ℕ) (k : ℕ) → k < length ps → word (placeWords ps ++ zs) (2 * k) ≡ cornerAt ps k .east
-unfolding placeWords
-record-even [] zs k h = absurd (omega arith)
-record-even (p ∷ ps) zs zero h = refl
-record-even (p ∷ ps) zs (suc k) h = let e : 2 * suc k ≡ suc (suc (2 * k)) = omega arith in rw e (record-even ps zs k (omega arith))
-
-record-odd : (ps : List Point) (zs : List ℕ) (k : ℕ) → k < length ps → word (placeWords ps ++ zs) (suc (2 * k)) ≡ cornerAt ps k .north
-unfolding placeWords
-record-odd [] zs k h = absurd (omega arith)
-record-odd (p ∷ ps) zs zero h = refl
-record-odd (p ∷ ps) zs (suc k) h = let e : 2 * suc k ≡ suc (suc (2 * k)) = omega arith in rw e (record-odd ps zs k (omega arith))
-
-record-past : (ps : List Point) (n k : ℕ) → 2 * length ps ≤ k → word (placeWords ps ++ replicate n 0) k ≡ 0
-record-past ps n k h =
-    let e : length (placeWords ps) + (k - 2 * length ps) ≡ k = omega (arith, placeWords-length ps) in
-    subst (λ (i : ℕ). word (placeWords ps ++ replicate n 0) i ≡ 0) e
-    (getD-append-add (placeWords ps) (replicate n 0) (k - 2 * length ps) 0 ∙ word-zeros n (k - 2 * length ps))
-
--- seventeen words with the count, the places and zeros are the record
-pub record-ext : (ps : List Point) (made : List ℕ) → length ps ≤ 8 → length made ≡ 17 → word made 0 ≡ length ps
-    → ((k : ℕ) → k < length ps → (word made (2 * k + 1) ≡ cornerAt ps k .east) × (word made (2 * k + 2) ≡ cornerAt ps k .north))
-    → ((i : ℕ) → 2 * length ps < i → word made i ≡ 0) → made ≡ blockRecord ps
-unfolding blockRecord
-record-ext ps made s l c p z = ext-getD 0 made (blockRecord ps) (l ∙ sym (blockRecord-length ps s)) at
-  where
-    at : (i : ℕ) → i < length made → word made i ≡ word (blockRecord ps) i
-    at zero h = c
-    at (suc i) h = go (decLt i (2 * length ps)) (ℕ-discrete (i % 2) 0)
-      where
-        go : Dec (i < 2 * length ps) → Dec (i % 2 ≡ 0) → word made (suc i) ≡ word (placeWords ps ++ replicate (16 - 2 * length ps) 0) i
-        go (yes b) (yes e) =
-            let q : i ≡ 2 * (i / 2) = omega arith in
-            let r : 2 * (i / 2) + 1 ≡ suc i = omega arith in
-            ap (λ (k : ℕ). word made k) (sym r) ∙ p (i / 2) (omega arith) .0
-            ∙ sym (record-even ps (replicate (16 - 2 * length ps) 0) (i / 2) (omega arith))
-            ∙ ap (λ (k : ℕ). word (placeWords ps ++ replicate (16 - 2 * length ps) 0) k) (sym q)
-        go (yes b) (no e) =
-            let q : i ≡ suc (2 * (i / 2)) = omega arith in
-            let r : 2 * (i / 2) + 2 ≡ suc i = omega arith in
-            ap (λ (k : ℕ). word made k) (sym r) ∙ p (i / 2) (omega arith) .1
-            ∙ sym (record-odd ps (replicate (16 - 2 * length ps) 0) (i / 2) (omega arith))
-            ∙ ap (λ (k : ℕ). word (placeWords ps ++ replicate (16 - 2 * length ps) 0) k) (sym q)
-        go (no b) d = z (suc i) (omega arith) ∙ sym (record-past ps (16 - 2 * length ps) i (omega arith))
-
 -- the first k corners are moved
 pub record MovedTo (de dn : ℤ) (ws made : List ℕ) (k : ℕ) : Type 0 where
   pub sized : length made ≡ 17
@@ -201,11 +144,6 @@ pub record MovedTo (de dn : ℤ) (ws made : List ℕ) (k : ℕ) : Type 0 where
   pub past : (j : ℕ) → j < k
       → (word made (2 * j + 1) ≡ natAbs (pos (word ws (2 * j + 1)) +ℤ de)) × (word made (2 * j + 2) ≡ natAbs (pos (word ws (2 * j + 2)) +ℤ dn))
   pub rest : (i : ℕ) → 2 * k < i → word made i ≡ 0
-
-corner-map : (f : Point → Point) (ps : List Point) (k : ℕ) → k < length ps → cornerAt (map f ps) k ≡ f (cornerAt ps k)
-corner-map f [] k h = absurd (omega arith)
-corner-map f (p ∷ ps) zero h = refl
-corner-map f (p ∷ ps) (suc k) h = corner-map f ps k (omega arith)
 
 module _ (de dn : ℤ) (ws : List ℕ) where
   pub moved-none : MovedTo de dn ws (word ws 0 ∷ replicate 16 0) 0

@@ -1,9 +1,9 @@
-use Rattle.records.specs.Questions.{all, shiftRight}
-use Rattle.geometry.specs.Words.{corners}
+use Rattle.records.specs.Questions.{shiftRight}
+use Rattle.lists.specs.Lists.{all}
+use Rattle.geometry.specs.Words.{corners, word}
 use mathlib.Core.Bool.{true, false}
-use Rattle.records.proofs.Shifting.{by-bits, LandTo, land-none, land-next, land-all, east-fails, north-fails}
-use Rattle.geometry.proofs.Below.{by-call}
-use Rattle.geometry.specs.Words.{word}
+use Rattle.moves.proofs.Shifting.{by-bits, LandTo, land-none, land-next, land-all, east-fails, north-fails}
+use Rattle.lists.proofs.Below.{by-call}
 use mir.Val.{toZ}
 use mir.Syntax.{w16}
 use Prim.Native.Nat.{_-_, _≤_}
@@ -11,8 +11,8 @@ use mathlib.Core.Path.{_≡_, refl}
 use native.Mathlib.Omega.{arith}
 use borrow.Author.Tests.{not-true, not-false}
 use borrow.Author.Needs.{needs}
-use Rattle.records.proofs.shifts_right.Statement.{statement}
-use Rattle.records.proofs.shifts_right.Tie as tie
+use Rattle.moves.proofs.shifts_right.Statement.{statement}
+use Rattle.moves.proofs.shifts_right.Tie as tie
 
 abbrev Inv-loop : tie.InvT-loop
 Inv-loop words east north count k₀ k = (count ≡ word words 0) × (k ≤ count) × LandTo (toZ w16 east) (toZ w16 north) words k
@@ -20,29 +20,11 @@ Inv-loop words east north count k₀ k = (count ≡ word words 0) × (k ≤ coun
 abbrev μ-loop : tie.MeasureT-loop
 μ-loop words east north count k₀ k = count - k
 
-shared-slice-read-count : tie.Need-shared-slice-read-count Inv-loop μ-loop
-shared-slice-read-count c = search needs
-
 cast-count : tie.Need-cast-count Inv-loop μ-loop
 cast-count c = omega (arith, c .shared-slice-known2 .given 0)
 
 loop-holds : tie.Need-loop-holds Inv-loop μ-loop
 loop-holds c = (refl, omega arith, land-none _ _ _)
-
-mul-lands : tie.Need-mul-lands Inv-loop μ-loop
-mul-lands c = search needs
-
-add-lands : tie.Need-add-lands Inv-loop μ-loop
-add-lands c = search needs
-
-mul-lands-2 : tie.Need-mul-lands-2 Inv-loop μ-loop
-mul-lands-2 c = search needs
-
-shared-slice-read-lands : tie.Need-shared-slice-read-lands Inv-loop μ-loop
-shared-slice-read-lands c = search needs
-
-lands-requires : tie.Need-lands-requires Inv-loop μ-loop
-lands-requires c κs = search needs
 
 returns : tie.Need-returns Inv-loop μ-loop
 returns c =
@@ -50,32 +32,11 @@ returns c =
     by-bits (λ e n. false ≡ all (shiftRight e n) (corners (s .args .words .now))) (s .args .east) (s .args .north) (s .fits .east) (s .fits .north)
     (east-fails _ _ _ (c .before .before .before .before .loop .k) (omega arith) (by-call (c .before .lands .ensures) (not-true _ (c .if1 .taken))))
 
-mul-lands-3 : tie.Need-mul-lands-3 Inv-loop μ-loop
-mul-lands-3 c = search needs
-
-add-lands-2 : tie.Need-add-lands-2 Inv-loop μ-loop
-add-lands-2 c = search needs
-
-mul-lands-4 : tie.Need-mul-lands-4 Inv-loop μ-loop
-mul-lands-4 c = search needs
-
-shared-slice-read-lands-2 : tie.Need-shared-slice-read-lands-2 Inv-loop μ-loop
-shared-slice-read-lands-2 c = search needs
-
-lands-requires-2 : tie.Need-lands-requires-2 Inv-loop μ-loop
-lands-requires-2 c κs = search needs
-
 returns-2 : tie.Need-returns-2 Inv-loop μ-loop
 returns-2 c =
     let s = c .before .before .before .before .before .before .before .before .before .before in
     by-bits (λ e n. false ≡ all (shiftRight e n) (corners (s .args .words .now))) (s .args .east) (s .args .north) (s .fits .east) (s .fits .north)
     (north-fails _ _ _ (c .before .before .before .before .before .before .before .loop .k) (omega arith) (by-call (c .before .lands2 .ensures) (not-true _ (c .if2 .taken))))
-
-add-k : tie.Need-add-k Inv-loop μ-loop
-add-k c = search needs
-
-loop-less : tie.Need-loop-less Inv-loop μ-loop
-loop-less c = search needs
 
 loop-again : tie.Need-loop-again Inv-loop μ-loop
 loop-again c =
@@ -94,22 +55,22 @@ shifts-right-spec =
     (tie.spec
     Inv-loop
     μ-loop
-    shared-slice-read-count
+    (λ c. search needs)
     cast-count
     loop-holds
-    mul-lands
-    add-lands
-    mul-lands-2
-    shared-slice-read-lands
-    lands-requires
+    (λ c. search needs)
+    (λ c. search needs)
+    (λ c. search needs)
+    (λ c. search needs)
+    (λ c κs. search needs)
     returns
-    mul-lands-3
-    add-lands-2
-    mul-lands-4
-    shared-slice-read-lands-2
-    lands-requires-2
+    (λ c. search needs)
+    (λ c. search needs)
+    (λ c. search needs)
+    (λ c. search needs)
+    (λ c κs. search needs)
     returns-2
-    add-k
-    loop-less
+    (λ c. search needs)
+    (λ c. search needs)
     loop-again
     returns-3)
