@@ -1,22 +1,26 @@
 -- The byte of one pair, from the answers that the code gets.
 use mathlib.Core.Path.{_≡_, refl, sym, _∙_, subst}
-use mathlib.Core.Logic.{_⊎_, inl, inr}
+use mathlib.Core.Logic.{inl, inr}
 use mathlib.Core.List.{List}
 use mathlib.Core.Bool.{Bool, true, false, true≢false, and-false}
 use Prim.Native.Nat.{ℕ, _+_, _/_, _<_, _≤_}
 use native.Mathlib.Omega.{arith}
 use native.Mathlib.Decide.{ℕ-discrete}
 use lib.Dec.{eqb}
-use borrow.Author.Tests.{eqb-true, eqb-false}
-use Rattle.geometry.specs.Words.{Point, Near}
+use borrow.Author.Tests.{eqb-true, eqb-false, eq-eqb, ne-eqb}
+use Rattle.lists.specs.inner.Tells.{Tells}
+use Rattle.lists.proofs.Telling.{tells-yes, tells-no}
+use Rattle.geometry.specs.Words.{Point}
+use Rattle.geometry.specs.inner.Bounds.{InRange}
 use Rattle.geometry.specs.Obstruction.{Hidden}
-use Rattle.geometry.specs.Search.{Lowest, LowestIs, hiderByte}
+use Rattle.geometry.specs.inner.Search.{Lowest, LowestIs, hiderByte}
 use Rattle.geometry.specs.declared.Hider.{Hider}
 use Rattle.geometry.specs.declared.Hider.the-variants.{At, Nothing}
-use Rattle.tables.specs.Tables.{Records, Fit, present, placeOf, OnBlock}
-use Rattle.tables.proofs.Marks.{place-near}
-use Rattle.visibility.specs.Visibility.{Hides, bothPresent, PairIs, absent, clear, hidden, BlockPair}
-use Rattle.visibility.specs.Redrawing.{StraightIs, unhidden, lowest, HidesAnswer, MarkIs, FreshAnswer}
+use Rattle.tables.specs.Tables.{Records, present, placeOf, OnBlock}
+use Rattle.tables.specs.inner.Fit.{Fit}
+use Rattle.tables.proofs.Marks.{place-in-range}
+use Rattle.visibility.specs.Visibility.{Hides, bothPresent, Clear, PairIs, absent, clear, hidden, Afresh, BlockPair}
+use Rattle.visibility.specs.inner.Bytes.{StraightIs, unhidden, lowest, MarkIs}
 
 -- the byte that the search's answer stands for
 pub number-small : (h : Hider) (n : ℕ) → hiderByte h ≤ 254 → h ≡ At n → n ≤ 254
@@ -28,30 +32,35 @@ straight-small blocks a b Nothing l = omega arith
 
 straight-of : (blocks : List ℕ) (a b : Point) (h : Hider) → Lowest blocks 0 24 a b h → StraightIs blocks a b (hiderByte h)
 straight-of blocks a b (At n) l = lowest (l .before) (l .hides) (λ k h g. l .lowest k (omega arith) h g)
-straight-of blocks a b Nothing l = unhidden (λ k h g. l k (omega arith) h g) refl
+straight-of blocks a b Nothing l = unhidden (record { seen = λ k h g. l k (omega arith) h g }) refl
 
 pub straight-is : (blocks : List ℕ) (a b : Point) (h : Hider) (byte : ℕ) → Lowest blocks 0 24 a b h → byte ≡ hiderByte h → StraightIs blocks a b byte
 straight-is blocks a b h byte l e = rw e (straight-of blocks a b h l)
 
+-- a straight is clear where its byte is 254
+pub clear-is : (blocks : List ℕ) (a b : Point) (byte : ℕ) → StraightIs blocks a b byte → Tells (Clear blocks a b) (eqb byte 254)
+clear-is blocks a b byte (unhidden c e) = rw (eq-eqb byte 254 e) (tells-yes c)
+clear-is blocks a b byte (lowest l h f) = rw (ne-eqb byte 254 (λ (e : byte ≡ 254). omega arith)) (tells-no (λ c. c .seen byte l h))
+
 -- what the search's two answers say of one block
 module _ (blocks : List ℕ) (a b : Point) (h : Hider) where
-  pub alone-hides : (n k : ℕ) → Lowest blocks n (n + 1) a b h → h ≡ At k → HidesAnswer blocks n a b true
+  pub alone-hides : (n k : ℕ) → Lowest blocks n (n + 1) a b h → h ≡ At k → Tells (Hidden blocks n a b) true
   alone-hides n k l e =
       let m : LowestIs blocks n (n + 1) a b k = subst (λ (x : Hider). Lowest blocks n (n + 1) a b x) e l in
       let q : k ≡ n = omega (arith, m .after, m .before) in
-      record { hides = λ t. rw q at (m .hides); misses = λ t. absurd (true≢false t) }
+      tells-yes (rw q at (m .hides))
 
-  pub alone-misses : (n : ℕ) → Lowest blocks n (n + 1) a b h → h ≡ Nothing → HidesAnswer blocks n a b false
+  pub alone-misses : (n : ℕ) → Lowest blocks n (n + 1) a b h → h ≡ Nothing → Tells (Hidden blocks n a b) false
   alone-misses n l e =
       let m : ((k : ℕ) → n ≤ k → k < n + 1 → Hidden blocks k a b → ⊥) = subst (λ (x : Hider). Lowest blocks n (n + 1) a b x) e l in
-      record { hides = λ t. absurd (true≢false (sym t)); misses = λ t h. m n (omega arith) (omega arith) h }
+      tells-no (λ x. m n (omega arith) (omega arith) x)
 
--- a known mark's place is near
-pub mark-near : (R : Records) (j : ℕ) (there : Bool) (p : Point) → Fit R → j < 240 → MarkIs R j there p → Near p
-mark-near R j there p f h m = rw (m .place) (place-near R j f h)
+-- a known mark's place is in range
+pub mark-in-range : (R : Records) (j : ℕ) (there : Bool) (p : Point) → Fit R → j < 240 → MarkIs R j there p → InRange p
+mark-in-range R j there p f h m = rw (m .place) (place-in-range R j f h)
 
-pub place-is-near : (R : Records) (i : ℕ) (a : Point) → Fit R → i < 240 → a ≡ placeOf R i → Near a
-place-is-near R i a f h e = rw e (place-near R i f h)
+pub place-is-in-range : (R : Records) (i : ℕ) (a : Point) → Fit R → i < 240 → a ≡ placeOf R i → InRange a
+place-is-in-range R i a f h e = rw e (place-in-range R i f h)
 
 module _ (R : Records) (i j : ℕ) where
   absent-high : (there : Bool) (p : Point) → MarkIs R j there p → there ≡ false → bothPresent R i j ≡ false
@@ -73,28 +82,19 @@ module _ (R : Records) (i j : ℕ) where
   pub fresh-straight : (t there : Bool) (a b : Point) (byte : ℕ) → MarkIs R j there b → there ≡ true → t ≡ present R i → t ≡ true → a ≡ placeOf R i
       → StraightIs (R .blocks) a b byte → PairIs R i j byte
   fresh-straight t there a b byte m e g h q (unhidden f o) =
-      clear (there-both t there b m e g h) (λ k l x. f k l (rw (q, m .place) x)) o
+      clear (there-both t there b m e g h) (rw (q, m .place) at f) o
   fresh-straight t there a b byte m e g h q (lowest l x f) =
       hidden (there-both t there b m e g h) l (rw (q, m .place) at x) (λ k s y. f k s (rw (q, m .place) y))
 
   -- an edit of block n
   module _ (n old : ℕ) where
-    pub pair-fresh : (t : Bool) (byte : ℕ) → FreshAnswer n i j old t → t ≡ true → PairIs R i j byte → BlockPair R n i j old byte
-    pair-fresh t byte f e p = go (f .asked e)
-      where
-        go : (OnBlock n i ⊎ OnBlock n j) ⊎ (old ≡ n) → BlockPair R n i j old byte
-        go (inl (inl a)) = record { fresh = λ q. p; covered = λ x y z l h. absurd (x a); kept = λ x y z h. absurd (x a) }
-        go (inl (inr a)) = record { fresh = λ q. p; covered = λ x y z l h. absurd (y a); kept = λ x y z h. absurd (y a) }
-        go (inr a) = record { fresh = λ q. p; covered = λ x y z (l : n < old) h. absurd (omega arith); kept = λ x y z h. absurd (z a) }
+    pub pair-fresh : (t : Bool) (byte : ℕ) → Tells (Afresh n i j old) t → t ≡ true → PairIs R i j byte → BlockPair R n i j old byte
+    pair-fresh t byte f e p =
+        record { fresh = λ q. p; covered = λ x. absurd (x (f .yes′ e)); kept = λ x. absurd (x (f .yes′ e)) }
 
-    spare : (t : Bool) → FreshAnswer n i j old t → t ≡ false → (byte : ℕ) → (OnBlock n i ⊎ OnBlock n j) ⊎ (old ≡ n) → PairIs R i j byte
-    spare t f e byte (inl (inl a)) = absurd (f .spared e .0 a)
-    spare t f e byte (inl (inr a)) = absurd (f .spared e .1 a)
-    spare t f e byte (inr a) = absurd (f .spared e .2 a)
-
-    module _ (t : Bool) (f : FreshAnswer n i j old t) (e : t ≡ false) where
+    module _ (t : Bool) (f : Tells (Afresh n i j old) t) (e : t ≡ false) where
       keeps : (bothPresent R i j ≡ true → n < old → Hides R n i j → ⊥) → BlockPair R n i j old old
-      keeps h = record { fresh = spare t f e old; covered = λ x y z l g. absurd (h z l g); kept = λ x y z g. refl }
+      keeps h = record { fresh = λ q. absurd (f .no′ e q); covered = λ x z l g. absurd (h z l g); kept = λ x g. refl }
 
       pub pair-lower : old < n → BlockPair R n i j old old
       pair-lower l = keeps (λ z (m : n < old) h. omega arith)
@@ -105,20 +105,20 @@ module _ (R : Records) (i j : ℕ) where
       pub pair-low : (s : Bool) → s ≡ present R i → s ≡ false → BlockPair R n i j old old
       pair-low s g d = keeps (λ z l h. true≢false (sym z ∙ absent-low s g d))
 
-      pub pair-missed : (there s : Bool) (a b : Point) → MarkIs R j there b → a ≡ placeOf R i → HidesAnswer (R .blocks) n a b s → s ≡ false → BlockPair R n i j old old
-      pair-missed there s a b m q x d = keeps (λ z l h. x .misses d (rw (q, m .place) h))
+      pub pair-missed : (there s : Bool) (a b : Point) → MarkIs R j there b → a ≡ placeOf R i → Tells (Hidden (R .blocks) n a b) s → s ≡ false → BlockPair R n i j old old
+      pair-missed there s a b m q x d = keeps (λ z l h. x .no′ d (rw (q, m .place) h))
 
       pub pair-covered : (there u s : Bool) (a b : Point) → MarkIs R j there b → there ≡ true → u ≡ present R i → u ≡ true → a ≡ placeOf R i → n ≤ old
-          → HidesAnswer (R .blocks) n a b s → s ≡ true → BlockPair R n i j old n
+          → Tells (Hidden (R .blocks) n a b) s → s ≡ true → BlockPair R n i j old n
       pair-covered there u s a b m te g ue q l x d =
           record {
-            fresh = spare t f e n;
-            covered = λ v y z k h. refl;
-            kept = λ v y z h. absurd (h (there-both u there b m te g ue) (above (ℕ-discrete old n)) (rw (q, m .place) at (x .hides d)));
+            fresh = λ r. absurd (f .no′ e r);
+            covered = λ v z k h. refl;
+            kept = λ v h. absurd (h (there-both u there b m te g ue) (above (ℕ-discrete old n)) (rw (q, m .place) at (x .yes′ d)));
           }
         where
           above : Dec (old ≡ n) → n < old
-          above (yes o) = absurd (f .spared e .2 o)
+          above (yes o) = absurd (f .no′ e (inr o))
           above (no o) = omega arith
 
 -- which block a mark is on
@@ -129,15 +129,16 @@ pub off-is : (n i : ℕ) → (i / 8 ≡ n → ⊥) → OnBlock n i → ⊥
 off-is n i d h = d (omega (arith, h .0, h .1))
 
 module _ (n i j old : ℕ) where
-  pub asks-low : i / 8 ≡ n → FreshAnswer n i j old true
-  asks-low e = record { asked = λ t. inl (inl (on-is n i e)); spared = λ t. absurd (true≢false t) }
+  pub asks-low : i / 8 ≡ n → Tells (Afresh n i j old) true
+  asks-low e = tells-yes (inl (inl (on-is n i e)))
 
-  pub asks-high : j / 8 ≡ n → FreshAnswer n i j old true
-  asks-high e = record { asked = λ t. inl (inr (on-is n j e)); spared = λ t. absurd (true≢false t) }
+  pub asks-high : j / 8 ≡ n → Tells (Afresh n i j old) true
+  asks-high e = tells-yes (inl (inr (on-is n j e)))
 
-  pub asks-byte : (i / 8 ≡ n → ⊥) → (j / 8 ≡ n → ⊥) → FreshAnswer n i j old (eqb old n)
-  asks-byte a b =
-      record {
-        asked = λ t. inr (eqb-true old n t);
-        spared = λ t. (off-is n i a, off-is n j b, eqb-false old n t);
-      }
+  pub asks-byte : (i / 8 ≡ n → ⊥) → (j / 8 ≡ n → ⊥) → Tells (Afresh n i j old) (eqb old n)
+  asks-byte a b = record { yes′ = λ t. inr (eqb-true old n t); no′ = λ t. none t }
+    where
+      none : eqb old n ≡ false → Afresh n i j old → ⊥
+      none t (inl (inl h)) = off-is n i a h
+      none t (inl (inr h)) = off-is n j b h
+      none t (inr h) = eqb-false old n t h

@@ -1,4 +1,4 @@
 pub mod Lasting
 pub mod Unique
 pub mod Bytes
-pub mod Rows
+pub mod Exists

@@ -1,2 +1,2 @@
 pub mod Visibility
-pub mod Redrawing
+pub mod inner

@@ -5,7 +5,7 @@ use mathlib.Core.Bool.{Bool, true, false, _&&_}
 use mathlib.Core.Logic.{_⊎_}
 use Prim.Native.Nat.{ℕ, _<_}
 use lib.ListN.{length}
-use Rattle.geometry.specs.Words.{word}
+use Rattle.geometry.specs.Words.{Point, word}
 use Rattle.geometry.specs.Obstruction.{Hidden}
 use Rattle.tables.specs.Tables.{Records, present, placeOf, pairIndex, OnBlock, OnRun}
 
@@ -17,17 +17,37 @@ Hides R n i j = Hidden (R .blocks) n (placeOf R i) (placeOf R j)
 abbrev pub bothPresent : Records → ℕ → ℕ → Bool
 bothPresent R i j = present R i && present R j
 
+-- the straight from a to b is clear: no block hides it
+pub record Clear (blocks : List ℕ) (a b : Point) : Type 0 where
+  pub seen : (n : ℕ) → n < 24 → Hidden blocks n a b → ⊥
+
+-- the straight between two marks is clear, by the stored records
+abbrev pub ClearBetween : Records → ℕ → ℕ → Type 0
+ClearBetween R i j = Clear (R .blocks) (placeOf R i) (placeOf R j)
+
+-- the clear straights of a run's graph
+abbrev pub ByPlaces : Records → ℕ → ℕ → Type 0
+ByPlaces R v u = (bothPresent R v u ≡ true) × ClearBetween R v u
+
 -- b is the byte that the stored blocks and runs require for marks i and j
 pub data PairIs (R : Records) (i j b : ℕ) : Type 0 where
   absent : bothPresent R i j ≡ false → b ≡ 255 → PairIs R i j b
-  clear : bothPresent R i j ≡ true → ((n : ℕ) → n < 24 → Hides R n i j → ⊥) → b ≡ 254 → PairIs R i j b
+  clear : bothPresent R i j ≡ true → ClearBetween R i j → b ≡ 254 → PairIs R i j b
   hidden : bothPresent R i j ≡ true → b < 24 → Hides R b i j → ((n : ℕ) → n < b → Hides R n i j → ⊥) → PairIs R i j b
+
+-- every byte of the pair table is what the stored blocks and runs require
+pub record PairsRight (R : Records) (pairs : List ℕ) : Type 0 where
+  pub each : (i j : ℕ) → i < j → j < 240 → PairIs R i j (word pairs (pairIndex i j))
+
+-- an edit of block n works the byte of marks i and j out afresh: they are on its marks, or the byte was n
+abbrev pub Afresh : ℕ → ℕ → ℕ → ℕ → Type 0
+Afresh n i j old = (OnBlock n i ⊎ OnBlock n j) ⊎ (old ≡ n)
 
 -- the byte of marks i and j before and after an edit of block n; R are the records as they now stand
 pub record BlockPair (R : Records) (n i j old new : ℕ) : Type 0 where
-  pub fresh : (OnBlock n i ⊎ OnBlock n j) ⊎ (old ≡ n) → PairIs R i j new
-  pub covered : (OnBlock n i → ⊥) → (OnBlock n j → ⊥) → bothPresent R i j ≡ true → n < old → Hides R n i j → new ≡ n
-  pub kept : (OnBlock n i → ⊥) → (OnBlock n j → ⊥) → (old ≡ n → ⊥) → (bothPresent R i j ≡ true → n < old → Hides R n i j → ⊥) → new ≡ old
+  pub fresh : Afresh n i j old → PairIs R i j new
+  pub covered : (Afresh n i j old → ⊥) → bothPresent R i j ≡ true → n < old → Hides R n i j → new ≡ n
+  pub kept : (Afresh n i j old → ⊥) → (bothPresent R i j ≡ true → n < old → Hides R n i j → ⊥) → new ≡ old
 
 -- the same of an edit of run m
 pub record RunPair (R : Records) (m i j old new : ℕ) : Type 0 where

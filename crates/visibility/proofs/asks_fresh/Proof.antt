@@ -12,4 +12,9 @@ returns-3 : tie.Need-returns-3
 returns-3 c = search asks-byte
 
 pub asks-fresh-spec : {M : Type 1} → statement M
-asks-fresh-spec = tie.close (tie.spec returns returns-2 returns-3)
+asks-fresh-spec =
+    tie.close
+    (tie.spec
+    returns
+    returns-2
+    returns-3)

@@ -1,14 +1,8 @@
 use borrow.Author.Tests.{not-true, not-false}
-use Rattle.visibility.proofs.Bytes.{pair-fresh, pair-lower, pair-high, pair-low, pair-covered, pair-missed, mark-near, place-is-near}
+use Rattle.visibility.proofs.Bytes.{pair-fresh, pair-lower, pair-high, pair-low, pair-covered, pair-missed, mark-in-range, place-is-in-range}
 use borrow.Author.Needs.{needs}
 use Rattle.visibility.proofs.block_byte.Statement.{statement}
 use Rattle.visibility.proofs.block_byte.Tie as tie
-
-asks-fresh-requires : tie.Need-asks-fresh-requires
-asks-fresh-requires c κs = search needs
-
-byte-with-requires : tie.Need-byte-with-requires
-byte-with-requires c κs = search needs
 
 returns : tie.Need-returns
 returns c = search pair-fresh
@@ -19,20 +13,11 @@ returns-2 c = search pair-lower
 returns-3 : tie.Need-returns-3
 returns-3 c = search (pair-high, not-true)
 
-is-present-requires : tie.Need-is-present-requires
-is-present-requires c κs = search needs
-
 returns-4 : tie.Need-returns-4
 returns-4 c = search (pair-low, not-true)
 
-place-of-requires : tie.Need-place-of-requires
-place-of-requires c κs = search needs
-
 hides-requires : tie.Need-hides-requires
-hides-requires c κs = search (mark-near, place-is-near)
-
-cast-result : tie.Need-cast-result
-cast-result c = search needs
+hides-requires c κs = search (mark-in-range, place-is-in-range)
 
 returns-5 : tie.Need-returns-5
 returns-5 c = search (pair-covered, not-false)
@@ -44,15 +29,15 @@ pub block-byte-spec : {M : Type 1} → statement M
 block-byte-spec =
     tie.close
     (tie.spec
-    asks-fresh-requires
-    byte-with-requires
+    (λ c κs. search needs)
+    (λ c κs. search needs)
     returns
     returns-2
     returns-3
-    is-present-requires
+    (λ c κs. search needs)
     returns-4
-    place-of-requires
+    (λ c κs. search needs)
     hides-requires
-    cast-result
+    (λ c. search needs)
     returns-5
     returns-6)

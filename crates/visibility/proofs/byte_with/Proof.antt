@@ -1,5 +1,5 @@
 use borrow.Author.Tests.{not-true, not-false}
-use Rattle.visibility.proofs.Bytes.{fresh-high, fresh-low, fresh-straight, mark-near, place-is-near}
+use Rattle.visibility.proofs.Bytes.{fresh-high, fresh-low, fresh-straight, mark-in-range, place-is-in-range}
 use borrow.Author.Needs.{needs}
 use Rattle.visibility.proofs.byte_with.Statement.{statement}
 use Rattle.visibility.proofs.byte_with.Tie as tie
@@ -7,17 +7,11 @@ use Rattle.visibility.proofs.byte_with.Tie as tie
 returns : tie.Need-returns
 returns c = search (fresh-high, not-true)
 
-is-present-requires : tie.Need-is-present-requires
-is-present-requires c κs = search needs
-
 returns-2 : tie.Need-returns-2
 returns-2 c = search (fresh-low, not-true)
 
-place-of-requires : tie.Need-place-of-requires
-place-of-requires c κs = search needs
-
 straight-byte-requires : tie.Need-straight-byte-requires
-straight-byte-requires c κs = search (mark-near, place-is-near)
+straight-byte-requires c κs = search (mark-in-range, place-is-in-range)
 
 returns-3 : tie.Need-returns-3
 returns-3 c = search (fresh-straight, not-false)
@@ -27,8 +21,8 @@ byte-with-spec =
     tie.close
     (tie.spec
     returns
-    is-present-requires
+    (λ c κs. search needs)
     returns-2
-    place-of-requires
+    (λ c κs. search needs)
     straight-byte-requires
     returns-3)

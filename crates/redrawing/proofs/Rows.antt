@@ -2,7 +2,7 @@
 use mathlib.Core.Path.{_≡_, refl, sym, ap, _∙_}
 use mathlib.Core.Logic.{_≢_, _⊎_, inl, inr}
 use mathlib.Core.List.{List}
-use mathlib.Core.Bool.{Bool, true, false, true≢false}
+use mathlib.Core.Bool.{Bool, true, false, not}
 use Prim.Native.Nat.{ℕ, _+_, _*_, _-_, _<_, _≤_}
 use native.Mathlib.Omega.{arith}
 use native.Mathlib.Decide.{ℕ-discrete}
@@ -10,12 +10,15 @@ use lib.ListN.{length, set, take, drop, length-set, length-take, length-drop}
 use lib.Seq.{getD-set-same, getD-set-other}
 use borrow.Rule.Slice.PartMut.{putMid, post-is}
 use Rattle.geometry.specs.Words.{word}
-use Rattle.tables.specs.Tables.{Records, splice, pairIndex, OnRun}
+use Rattle.tables.specs.Tables.{Records, pairIndex, OnRun}
+use Rattle.lists.specs.Lists.{splice}
 use Rattle.tables.proofs.Pairs.{tri, tri-next, tri-240, tri-below, pair-tri, pair-in, pair-row, pair-col}
 use Rattle.tables.proofs.Splices.{part-word, splice-length, splice-before, splice-after, splice-here}
-use Rattle.visibility.specs.Visibility.{PairIs, BlockPair, RunPair, BlockRedrawn, RunRedrawn}
-use Rattle.visibility.specs.Redrawing.{RowRedrawn, InRow, InColumn, Renewed, RowAnswer, PairsAnswer}
+use Rattle.visibility.specs.Visibility.{PairIs, PairsRight, BlockPair, RunPair, BlockRedrawn, RunRedrawn}
+use Rattle.redrawing.specs.inner.Rows.{RowRedrawn, InRow, InColumn, Renewed, RowRight, RowsRight}
+use Rattle.lists.specs.inner.Tells.{Tells}
+use Rattle.lists.proofs.Telling.{tells-yes, tells-no, told, denied}
 use Rattle.visibility.proofs.Unique.{pair-unique}
 
 -- the entries of row j below i are redrawn, and the others are as they were
 pub record RowUpto (R : Records) (n j : ℕ) (old new : List ℕ) (i : ℕ) : Type 0 where
@@ -211,46 +214,34 @@ module _ (R : Records) (m : ℕ) (s₀ s₁ s₂ s₃ s₄ : List ℕ) (below : 
 
 -- the check
 module _ (R : Records) (pairs : List ℕ) where
-  -- the bytes of row j below i are right
-  pub record RowRight (j i : ℕ) : Type 0 where
-    pub each : (k : ℕ) → k < i → PairIs R k j (word pairs (pairIndex k j))
-
-  pub record RowsRight (top : ℕ) : Type 0 where
-    pub each : (i j : ℕ) → i < j → j < top → PairIs R i j (word pairs (pairIndex i j))
-
-  pub row-right-none : (j : ℕ) → RowRight j 0
+  pub row-right-none : (j : ℕ) → RowRight R pairs j 0
   row-right-none j = record { each = λ k h. absurd (omega arith) }
 
-  pub row-right-next : (i j at due : ℕ) → at ≡ pairIndex i j → PairIs R i j due → word pairs at ≡ due → RowRight j i → RowRight j (i + 1)
+  pub row-right-next : (i j at due : ℕ) → at ≡ pairIndex i j → PairIs R i j due → word pairs at ≡ due → RowRight R pairs j i → RowRight R pairs j (i + 1)
   row-right-next i j at due e p q r = record { each = λ k h. go k h (ℕ-discrete k i) }
     where
       go : (k : ℕ) → k < i + 1 → Dec (k ≡ i) → PairIs R k j (word pairs (pairIndex k j))
       go k h (yes d) = rw (d, sym e, q) p
       go k h (no d) = r .each k (omega arith)
 
-  pub row-right-yes : (j i : ℕ) → j ≤ i → RowRight j i → RowAnswer R pairs j true
-  row-right-yes j i h r = record { right = λ t k l. r .each k (omega arith); wrong = λ t. absurd (true≢false t) }
+  pub row-right-yes : (j i : ℕ) → j ≤ i → RowRight R pairs j i → Tells (RowRight R pairs j j) true
+  row-right-yes j i h r = tells-yes (record { each = λ k l. r .each k (omega arith) })
 
-  pub row-right-no : (i j at due : ℕ) → i < j → at ≡ pairIndex i j → PairIs R i j due → (word pairs at ≡ due → ⊥) → RowAnswer R pairs j false
-  row-right-no i j at due h e p q =
-      record {
-        right = λ t. absurd (true≢false (sym t));
-        wrong = λ t f. q (rw e (pair-unique R i j _ _ (f i h) p));
-      }
+  pub row-right-no : (i j at due : ℕ) → i < j → at ≡ pairIndex i j → PairIs R i j due → (word pairs at ≡ due → ⊥) → Tells (RowRight R pairs j j) false
+  row-right-no i j at due h e p q = tells-no (λ f. q (rw e (pair-unique R i j _ _ (f .each i h) p)))
 
-  pub rows-right-none : RowsRight 0
+  pub rows-right-none : RowsRight R pairs 0
   rows-right-none = record { each = λ i j h l. absurd (omega arith) }
 
-  pub rows-right-next : (j : ℕ) (t : Bool) → RowAnswer R pairs j t → t ≡ true → RowsRight j → RowsRight (j + 1)
+  pub rows-right-next : (j : ℕ) (t : Bool) → Tells (RowRight R pairs j j) t → not t ≡ false → RowsRight R pairs j → RowsRight R pairs (j + 1)
   rows-right-next j t a e r = record { each = λ i k h l. go i k h l (ℕ-discrete k j) }
     where
       go : (i k : ℕ) → i < k → k < j + 1 → Dec (k ≡ j) → PairIs R i k (word pairs (pairIndex i k))
-      go i k h l (yes d) = rw d (a .right e i (omega arith))
+      go i k h l (yes d) = rw d (told a e .each i (omega arith))
       go i k h l (no d) = r .each i k h (omega arith)
 
-  pub rows-right-yes : (top : ℕ) → 240 ≤ top → RowsRight top → PairsAnswer R pairs true
-  rows-right-yes top h r = record { right = λ t i j a b. r .each i j a (omega arith); wrong = λ t. absurd (true≢false t) }
+  pub rows-right-yes : (top : ℕ) → 240 ≤ top → RowsRight R pairs top → Tells (PairsRight R pairs) true
+  rows-right-yes top h r = tells-yes (record { each = λ i j a b. r .each i j a (omega arith) })
 
-  pub rows-right-no : (j : ℕ) (t : Bool) → j < 240 → RowAnswer R pairs j t → t ≡ false → PairsAnswer R pairs false
-  rows-right-no j t h a e =
-      record { right = λ s. absurd (true≢false (sym s)); wrong = λ s f. a .wrong e (λ i l. f i j l h) }
+  pub rows-right-no : (j : ℕ) (t : Bool) → j < 240 → Tells (RowRight R pairs j j) t → not t ≡ true → Tells (PairsRight R pairs) false
+  rows-right-no j t h a e = tells-no (λ f. denied a e (record { each = λ i l. f .each i j l h }))

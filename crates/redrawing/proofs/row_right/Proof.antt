@@ -1,10 +1,11 @@
-use Rattle.visibility.proofs.Rows.{RowRight, row-right-none, row-right-next, row-right-yes, row-right-no}
+use Rattle.redrawing.specs.inner.Rows.{RowRight}
+use Rattle.redrawing.proofs.Rows.{row-right-none, row-right-next, row-right-yes, row-right-no}
 use borrow.Author.Needs.{needs}
 use native.Mathlib.Omega.{arith}
 use Prim.Native.Nat.{_-_, _≤_}
 use Rattle.tables.specs.Tables.{stored}
-use Rattle.visibility.proofs.row_right.Statement.{statement}
-use Rattle.visibility.proofs.row_right.Tie as tie
+use Rattle.redrawing.proofs.row_right.Statement.{statement}
+use Rattle.redrawing.proofs.row_right.Tie as tie
 
 abbrev Inv-loop : tie.InvT-loop
 Inv-loop blocks runs pairs j i₀ i = (i ≤ j) × RowRight (stored blocks runs) pairs j i
@@ -15,23 +16,8 @@ abbrev μ-loop : tie.MeasureT-loop
 loop-holds : tie.Need-loop-holds Inv-loop μ-loop
 loop-holds c = (omega arith, search row-right-none)
 
-pair-index-requires : tie.Need-pair-index-requires Inv-loop μ-loop
-pair-index-requires c κs = search needs
-
-fresh-byte-requires : tie.Need-fresh-byte-requires Inv-loop μ-loop
-fresh-byte-requires c κs = search needs
-
-shared-slice-read-if1 : tie.Need-shared-slice-read-if1 Inv-loop μ-loop
-shared-slice-read-if1 c = search needs
-
 returns : tie.Need-returns Inv-loop μ-loop
 returns c = search row-right-no
-
-add-i : tie.Need-add-i Inv-loop μ-loop
-add-i c = search needs
-
-loop-less : tie.Need-loop-less Inv-loop μ-loop
-loop-less c = search needs
 
 loop-again : tie.Need-loop-again Inv-loop μ-loop
 loop-again c = (omega arith, search row-right-next)
@@ -46,11 +32,11 @@ row-right-spec =
     Inv-loop
     μ-loop
     loop-holds
-    pair-index-requires
-    fresh-byte-requires
-    shared-slice-read-if1
+    (λ c κs. search needs)
+    (λ c κs. search needs)
+    (λ c. search needs)
     returns
-    add-i
-    loop-less
+    (λ c. search needs)
+    (λ c. search needs)
     loop-again
     returns-2)

@@ -1,11 +1,11 @@
-use borrow.Author.Tests.{not-true, not-false}
-use Rattle.visibility.proofs.Rows.{RowsRight, rows-right-none, rows-right-next, rows-right-yes, rows-right-no}
+use Rattle.redrawing.specs.inner.Rows.{RowsRight}
+use Rattle.redrawing.proofs.Rows.{rows-right-none, rows-right-next, rows-right-yes, rows-right-no}
 use borrow.Author.Needs.{needs}
 use native.Mathlib.Omega.{arith}
 use Prim.Native.Nat.{_-_, _≤_}
 use Rattle.tables.specs.Tables.{stored}
-use Rattle.visibility.proofs.pairs_right.Statement.{statement}
-use Rattle.visibility.proofs.pairs_right.Tie as tie
+use Rattle.redrawing.proofs.pairs_right.Statement.{statement}
+use Rattle.redrawing.proofs.pairs_right.Tie as tie
 
 abbrev Inv-loop : tie.InvT-loop
 Inv-loop blocks runs pairs j₀ j = (j ≤ 240) × RowsRight (stored blocks runs) pairs j
@@ -16,20 +16,11 @@ abbrev μ-loop : tie.MeasureT-loop
 loop-holds : tie.Need-loop-holds Inv-loop μ-loop
 loop-holds c = (omega arith, search rows-right-none)
 
-row-right-requires : tie.Need-row-right-requires Inv-loop μ-loop
-row-right-requires c κs = search needs
-
 returns : tie.Need-returns Inv-loop μ-loop
-returns c = search (rows-right-no, not-true)
-
-add-j : tie.Need-add-j Inv-loop μ-loop
-add-j c = search needs
-
-loop-less : tie.Need-loop-less Inv-loop μ-loop
-loop-less c = search needs
+returns c = search rows-right-no
 
 loop-again : tie.Need-loop-again Inv-loop μ-loop
-loop-again c = (omega arith, search (rows-right-next, not-false))
+loop-again c = (omega arith, search rows-right-next)
 
 returns-2 : tie.Need-returns-2 Inv-loop μ-loop
 returns-2 c = search rows-right-yes
@@ -41,9 +32,9 @@ pairs-right-spec =
     Inv-loop
     μ-loop
     loop-holds
-    row-right-requires
+    (λ c κs. search needs)
     returns
-    add-j
-    loop-less
+    (λ c. search needs)
+    (λ c. search needs)
     loop-again
     returns-2)

@@ -1,0 +1,115 @@
+// The pair table: its redrawing after an edit, and the check of every byte.
+ghost use mathlib.Core.Path.{_≡_};
+ghost use Prim.Native.Nat.{_+_, _*_, _<_};
+ghost use lib.ListN.{length};
+ghost use Rattle.lists.specs.inner.Tells.{Tells};
+ghost use Rattle.tables.specs.Tables.{stored};
+ghost use Rattle.tables.specs.inner.Fit.{Fit};
+ghost use Rattle.visibility.specs.Visibility.{PairsRight, BlockRedrawn, RunRedrawn};
+ghost use Rattle.redrawing.specs.inner.Rows.{RowRedrawn, InRow, InColumn, Renewed, RowRight};
+use tables::is_present;
+use tables::pair_index;
+use tables::place_of;
+use visibility::block_byte;
+use visibility::fresh_byte;
+
+// The bytes of mark j with the marks below it, after an edit of block n.
+fn redraw_row(blocks: &[u16], runs: &[u16], row: &mut [u8], j: usize, n: usize)
+    requires { ⌜ (Fit (stored (now blocks) (now runs))) × (length (now row) ≡ j) × (j < 240) × (n < 24) ⌝ }
+    ensures { λ r. ⌜ RowRedrawn (stored (now (blocks .entry)) (now (runs .entry))) n j (now (row .entry)) (now (row .exit)) ⌝ }
+{
+    let there = is_present(blocks, runs, j);
+    let b = place_of(blocks, runs, j);
+    let mut i = 0;
+    while i < j {
+        let old = row[i];
+        let new = block_byte(blocks, runs, n, i, j, there, b, old);
+        row[i] = new;
+        i += 1;
+    }
+}
+
+// The pairs after an edit of block n, in place.
+pub fn redraw_block(blocks: &[u16], runs: &[u16], pairs: &mut [u8], n: usize)
+    requires { ⌜ (Fit (stored (now blocks) (now runs))) × (length (now pairs) ≡ 28680) × (n < 24) ⌝ }
+    ensures { λ r. ⌜ BlockRedrawn (stored (now (blocks .entry)) (now (runs .entry))) n (now (pairs .entry)) (now (pairs .exit)) ⌝ }
+{
+    let mut start = 0;
+    let mut j = 0;
+    while j < 240 {
+        redraw_row(blocks, runs, &mut pairs[start..start + j], j, n);
+        start += j;
+        j += 1;
+    }
+}
+
+// The pairs of mark k with the marks below it, worked out afresh.
+fn renew_row(blocks: &[u16], runs: &[u16], pairs: &mut [u8], k: usize)
+    requires { ⌜ (Fit (stored (now blocks) (now runs))) × (length (now pairs) ≡ 28680) × (k < 240) ⌝ }
+    ensures { λ r. ⌜ Renewed (stored (now (blocks .entry)) (now (runs .entry))) (InRow k k) (now (pairs .entry)) (now (pairs .exit)) ⌝ }
+{
+    let mut i = 0;
+    while i < k {
+        let at = pair_index(i, k);
+        pairs[at] = fresh_byte(blocks, runs, i, k);
+        i += 1;
+    }
+}
+
+// The pairs of mark k with the marks above it, worked out afresh.
+fn renew_column(blocks: &[u16], runs: &[u16], pairs: &mut [u8], k: usize)
+    requires { ⌜ (Fit (stored (now blocks) (now runs))) × (length (now pairs) ≡ 28680) × (k < 240) ⌝ }
+    ensures { λ r. ⌜ Renewed (stored (now (blocks .entry)) (now (runs .entry))) (InColumn k 240) (now (pairs .entry)) (now (pairs .exit)) ⌝ }
+{
+    let mut j = k + 1;
+    while j < 240 {
+        let at = pair_index(k, j);
+        pairs[at] = fresh_byte(blocks, runs, k, j);
+        j += 1;
+    }
+}
+
+// The pairs after an edit of run m, in place.
+pub fn redraw_run(blocks: &[u16], runs: &[u16], pairs: &mut [u8], m: usize)
+    requires { ⌜ (Fit (stored (now blocks) (now runs))) × (length (now pairs) ≡ 28680) × (m < 24) ⌝ }
+    ensures { λ r. ⌜ RunRedrawn (stored (now (blocks .entry)) (now (runs .entry))) m (now (pairs .entry)) (now (pairs .exit)) ⌝ }
+{
+    let first = 192 + 2 * m;
+    let second = 193 + 2 * m;
+    renew_row(blocks, runs, pairs, first);
+    renew_row(blocks, runs, pairs, second);
+    renew_column(blocks, runs, pairs, first);
+    renew_column(blocks, runs, pairs, second);
+}
+
+// Whether every byte of row j is what the records require.
+fn row_right(blocks: &[u16], runs: &[u16], pairs: &[u8], j: usize) -> bool
+    requires { ⌜ (Fit (stored (now blocks) (now runs))) × (length (now pairs) ≡ 28680) × (j < 240) ⌝ }
+    ensures { λ r. ⌜ Tells (RowRight (stored (now (blocks .entry)) (now (runs .entry))) (now (pairs .entry)) j j) r ⌝ }
+{
+    let mut i = 0;
+    while i < j {
+        let at = pair_index(i, j);
+        let due = fresh_byte(blocks, runs, i, j);
+        if pairs[at] != due {
+            return false;
+        }
+        i += 1;
+    }
+    true
+}
+
+// Whether every byte of the pair table is what the records require.
+pub fn pairs_right(blocks: &[u16], runs: &[u16], pairs: &[u8]) -> bool
+    requires { ⌜ (Fit (stored (now blocks) (now runs))) × (length (now pairs) ≡ 28680) ⌝ }
+    ensures { λ r. ⌜ Tells (PairsRight (stored (now (blocks .entry)) (now (runs .entry))) (now (pairs .entry))) r ⌝ }
+{
+    let mut j = 0;
+    while j < 240 {
+        if !row_right(blocks, runs, pairs, j) {
+            return false;
+        }
+        j += 1;
+    }
+    true
+}
