@@ -7,7 +7,7 @@ use native.Mathlib.Decide.{decLt}
 use native.Mathlib.Omega.{arith}
 use lib.ListN.{length}
 use Rattle.paths.specs.Path.{Graph, Chain, last, more, NoLater, same, less, then, NoWorse, cheaper, shorter, earlier, IsRoute, NoChain, total}
-use Rattle.paths.specs.Ahead.{Ahead}
+use Rattle.paths.specs.inner.LowerBound.{ConsistentBound}
 use Rattle.paths.proofs.Short.{chain-two, total-more}
 
 -- a chain's cost with its number of edges, ordered by cost and then by edges
@@ -107,26 +107,26 @@ module _ (G : Graph) (start end : ℕ) where
       reach s (last {v} e) = l v s e
       reach s (more {v} {u} i e c) = m v u s i e (reach (inr i) c)
 
-  -- labels of which those of settled vertices have been passed on: with what is ahead, no vertex that is not settled has a label below start's
+  -- labels of which those of settled vertices have been passed on: with the bound, no vertex that is not settled has a label below start's
   pub record Settled (Done : ℕ → Type 0) (L : ℕ → Label) : Type 0 where
     pub end-zero : L end ≡ label 0 0
     pub relaxed-last : (v : ℕ) → Source v → G .Edge v end → L v ≼ hop (G .cost v end) (L end)
     pub relaxed : (v u : ℕ) → Source v → G .Inner u → G .Edge v u → Done u → L v ≼ hop (G .cost v u) (L u)
-    pub ahead : ℕ → ℕ
-    pub leads : Ahead G start ahead
-    pub open′ : (u : ℕ) → G .Inner u → Done u ⊎ (L start ≼ raise (ahead u) (L u))
+    pub bound : ℕ → ℕ
+    pub consistent : ConsistentBound G start bound
+    pub open′ : (u : ℕ) → G .Inner u → Done u ⊎ (L start ≼ raise (bound u) (L u))
 
   module _ (Done : ℕ → Type 0) (L : ℕ → Label) (ls : Settled Done L) where
     last-label : (v : ℕ) → labelOf (G .cost) (v ∷ end ∷ []) ≡ hop (G .cost v end) (L end)
     last-label v = ap (hop (G .cost v end)) (sym (ls .end-zero))
 
     abbrev far : ℕ → Label → Label
-    far v a = raise (ls .ahead v) a
+    far v a = raise (ls .bound v) a
 
     further : (v u : ℕ) (a : Label) → far u a ≼ far v (hop (G .cost v u) a)
-    further v u a = raise-up (ls .ahead v) (ls .ahead u) (G .cost v u) a (ls .leads .step v u)
+    further v u a = raise-up (ls .bound v) (ls .bound u) (G .cost v u) a (ls .consistent .step v u)
 
-    -- no chain is below the label of its first vertex, but those that, with what is ahead, start is not above
+    -- no chain is below the label of its first vertex, but those that, with the bound, start is not above
     pub least-or : {v : ℕ} {us : List ℕ} → Source v → Chain G end v us → (L v ≼ labelOf (G .cost) us) ⊎ (L start ≼ far v (labelOf (G .cost) us))
     least-or s (last {v} e) = inl (rw (last-label v) (ls .relaxed-last v s e))
     least-or s (more {v} {u} {us} i e c) =
@@ -136,10 +136,10 @@ module _ (G : Graph) (start end : ℕ) where
             → (L v ≼ hop (G .cost v u) (labelOf (G .cost) us)) ⊎ (L start ≼ far v (hop (G .cost v u) (labelOf (G .cost) us)))
         go d (inr h) = inr (≼-trans h (further v u (labelOf (G .cost) us)))
         go (inl d) (inl h) = inl (≼-trans (ls .relaxed v u s i e d) (hop-mono (G .cost v u) h))
-        go (inr o) (inl h) = inr (≼-trans (≼-trans o (raise-mono (ls .ahead u) h)) (further v u (labelOf (G .cost) us)))
+        go (inr o) (inl h) = inr (≼-trans (≼-trans o (raise-mono (ls .bound u) h)) (further v u (labelOf (G .cost) us)))
 
     pub least : {us : List ℕ} → Chain G end start us → L start ≼ labelOf (G .cost) us
-    least c = ⊎-elim (λ h. h) (λ h. raise-none (ls .ahead start) (ls .leads .none) h) (least-or (inl refl) c)
+    least c = ⊎-elim (λ h. h) (λ h. raise-none (ls .bound start) (ls .consistent .none) h) (least-or (inl refl) c)
 
     -- a next vertex by which the labels add up
     pub record Tight (v u : ℕ) : Type 0 where
@@ -163,14 +163,14 @@ module _ (G : Graph) (start end : ℕ) where
         whole = sym (label-more G end v c) ∙ q
 
         not-start : L start ≼ far u (labelOf (G .cost) us) → ⊥
-        not-start h = raise-above (ls .ahead v) (ls .ahead u) (G .cost v u) (labelOf (G .cost) us) (ls .leads .step v u) h (subst (λ (l : Label). far v l ≼ L start) (sym whole) b)
+        not-start h = raise-above (ls .bound v) (ls .bound u) (G .cost v u) (labelOf (G .cost) us) (ls .consistent .step v u) h (subst (λ (l : Label). far v l ≼ L start) (sym whole) b)
 
         go : (L u ≼ labelOf (G .cost) us) ⊎ (L start ≼ far u (labelOf (G .cost) us)) → First v u us
         go (inr h) = absurd (not-start h)
         go (inl h) = with-done (ls .open′ u i)
           where
             with-done : Done u ⊎ (L start ≼ far u (L u)) → First v u us
-            with-done (inr o) = absurd (not-start (≼-trans o (raise-mono (ls .ahead u) h)))
+            with-done (inr o) = absurd (not-start (≼-trans o (raise-mono (ls .bound u) h)))
             with-done (inl d) =
                 let r : labelOf (G .cost) us ≡ L u =
                 hop-cancel (G .cost v u)
@@ -196,12 +196,12 @@ module _ (G : Graph) (start end : ℕ) where
     not-zero : {us : List ℕ} → Chain G end end us → labelOf (G .cost) us ≡ L end → ⊥
     not-zero c q = omega (arith, chain-two G end c, ap (λ (l : Label). l .hops) (q ∙ ls .end-zero))
 
-    -- a label along the walk, with what is ahead, is at most start's
+    -- a label along the walk, with the bound, is at most start's
     tight-below : {v u : ℕ} → Tight v u → far v (L v) ≼ L start → far u (L u) ≼ L start
     tight-below {v} {u} t b = ≼-trans (further v u (L u)) (subst (λ (l : Label). far v l ≼ L start) (t .sum) b)
 
     start-below : far start (L start) ≼ L start
-    start-below = tied (omega (arith, ls .leads .none)) (omega arith)
+    start-below = tied (omega (arith, ls .consistent .none)) (omega arith)
 
     -- of the chains with its label, the walk is the first in order
     pub walk-first : {v : ℕ} {us ws : List ℕ} → Source v → far v (L v) ≼ L start → Walk v us → Chain G end v ws → labelOf (G .cost) ws ≡ L v → NoLater us ws

@@ -8,9 +8,6 @@ use native.Mathlib.Decide.{decLt}
 use lib.ListN.{length}
 use Rattle.paths.specs.Path.{Graph, NoLater, same, less, then, NoWorse, cheaper, shorter, earlier, IsRoute, total}
 
-pub noLater-refl : (us : List ℕ) → NoLater us us
-noLater-refl us = same
-
 pub noLater-trans : {us vs ws : List ℕ} → NoLater us vs → NoLater vs ws → NoLater us ws
 noLater-trans same q = q
 noLater-trans (less h) same = less h

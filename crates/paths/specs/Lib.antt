@@ -1,2 +1,2 @@
 pub mod Path
-pub mod Ahead
+pub mod inner

@@ -12,8 +12,9 @@ use Rattle.paths.proofs.Best.{route-search}
 use Rattle.paths.proofs.Short as short
 use Rattle.geometry.specs.Words.{word}
 use Rattle.tables.specs.Tables.{Records, isCorner, firstEnd, secondEnd}
-use Rattle.routing.specs.Routes.{ByBytes, graph, foundWords, RouteIs, noRun, found, noWay}
-use Rattle.routing.proofs.Yard.{corner-below}
+use Rattle.search.specs.Network.{graph}
+use Rattle.search.proofs.Network.{corner-below}
+use Rattle.routing.specs.Routes.{foundWords, RouteIs, noRun, found, noWay}
 
 -- at most 194 marks
 pub route-short : (R : Records) (Clear : ℕ → ℕ → Type 0) (m : ℕ) (us : List ℕ) → IsRoute (graph R Clear) (firstEnd m) (secondEnd m) us → length us ≤ 194
@@ -33,9 +34,6 @@ both-dec (no a) d = no (λ h. a (h .0))
 not-dec : {A : Type 0} → Dec A → Dec (A → ⊥)
 not-dec (yes a) = no (λ h. h a)
 not-dec (no a) = yes a
-
-pub bytes-dec : (pairs : List ℕ) (v u : ℕ) → Dec (ByBytes pairs v u)
-bytes-dec pairs v u = ℕ-discrete _ 254
 
 module _ (R : Records) (Clear : ℕ → ℕ → Type 0) (clear-dec : (v u : ℕ) → Dec (Clear v u)) where
   abbrev pub Route : ℕ → Type 0

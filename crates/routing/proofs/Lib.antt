@@ -1,8 +1,7 @@
-pub mod Steps
-pub mod Yard
-pub mod Leads
-pub mod Turn
-pub mod Written
+pub mod TightKeys
 pub mod Walks
+pub mod Written
 pub mod Unique
 pub mod Fits
+pub mod Checking
+pub mod Maps

@@ -6,7 +6,8 @@ use native.Mathlib.Omega.{arith}
 use Rattle.paths.proofs.Order.{route-one}
 use Rattle.tables.specs.Tables.{Records, firstEnd, secondEnd}
 use Rattle.tables.proofs.Splices.{routes-ext}
-use Rattle.routing.specs.Routes.{graph, foundWords, RouteIs, noRun, found, noWay, Routed, ByBytes}
+use Rattle.search.specs.Network.{ByBytes, graph}
+use Rattle.routing.specs.Routes.{foundWords, RouteIs, noRun, found, noWay, Routed}
 
 pub route-unique : (R : Records) (Clear : ℕ → ℕ → Type 0) (m : ℕ) {ws xs : List ℕ} → RouteIs R Clear m ws → RouteIs R Clear m xs → ws ≡ xs
 route-unique R C m (noRun a) (noRun b) = refl

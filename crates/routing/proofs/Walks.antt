@@ -1,24 +1,25 @@
 -- The walk by the keys is the route.
 use mathlib.Core.Path.{_≡_, refl, sym, ap, _∙_, subst}
-use mathlib.Core.Logic.{inl, inr, ⊎-elim}
+use mathlib.Core.Logic.{_⊎_, inl, inr, ⊎-elim}
 use mathlib.Core.List.{List, [], _∷_, _++_, append-assoc}
 use Prim.Native.Nat.{ℕ, suc, _+_, _*_, _-_, _/_, _%_, _≤_, _<_}
 use native.Mathlib.Decide.{ℕ-discrete, decLt}
 use native.Mathlib.Numerals.{add-three}
 use native.Mathlib.Omega.{arith}
-use lib.ListN.{length, set, replicate, length-append}
+use lib.ListN.{length, set, replicate, length-append, length-replicate}
+use Rattle.lists.specs.inner.Filled.{filled}
 use Rattle.paths.specs.Path.{Graph, Chain, last, more}
 use Rattle.paths.proofs.Labels.{Label, label, label-eq, hop, raise, _≼_, lower, tied, labelOf, Settled, Tight, first-last, first-more, Walk, arrive, onward, walk-label, walk-route}
 use Rattle.geometry.specs.Words.{word}
-use Rattle.routing.specs.Keys.{unreached, Filled, Attained, Keyed, TightKey, Hop, marksOnly, Walked}
-use Rattle.routing.proofs.Yard.{Sized}
-use Rattle.routing.proofs.Written.{filled-is}
+use Rattle.search.specs.inner.Keys.{Attained, Keyed}
+use Rattle.search.proofs.Network.{Sized}
+use Rattle.routing.specs.inner.Walking.{TightKey, Hop, marksOnly, Walked}
 
 -- the label that a key stands for
 abbrev pub keyLabel : ℕ → Label
 keyLabel k = label (k / 256) (k % 256)
 
--- the order of two keys, one of them with what is ahead
+-- the order of two keys, one of them with its bound
 key-below : (a b k : ℕ) → a + 256 * k ≤ b → raise k (keyLabel a) ≼ keyLabel b
 key-below a b k h = elim (decLt (k + a / 256) (b / 256)) [ yes l ↦ lower l | no l ↦ tied (omega arith) (omega arith) ]
 
@@ -30,29 +31,26 @@ key-hop : (a b c : ℕ) → a ≤ 256 * c + 1 + b → b % 256 ≤ 193 → keyLab
 key-hop a b c h f = elim (decLt (a / 256) (c + b / 256)) [ yes l ↦ lower l | no l ↦ tied (omega arith) (omega arith) ]
 
 -- a mark on the way
-pub record On (G : Graph) (start end : ℕ) (key : List ℕ) (v : ℕ) : Type 0 where
+pub record On (G : Graph) (start end : ℕ) (key : List ℕ) (k : Keyed G start end key) (v : ℕ) : Type 0 where
   pub below : v < 240
   pub not-end : v ≡ end → ⊥
-  pub near : (k : Keyed G start end key) → word key v + 256 * k .ahead v ≤ word key start
+  pub near : (v ≡ start) ⊎ (word key v + 256 * k .bound v < word key start)
 
 module _ (G : Graph) (start end : ℕ) (key : List ℕ) (z : Sized G start end) (k : Keyed G start end key) where
   -- the marks whose keys are final
   abbrev pub Final : ℕ → Type 0
-  Final u = word key u + 256 * k .ahead u < word key start
+  Final u = word key u + 256 * k .bound u < word key start
 
   abbrev pub L : ℕ → Label
   L v = keyLabel (word key v)
 
-  at : (v : ℕ) → v < 240 → (v ≡ end → ⊥) → word key v < unreached → Attained G start end v (word key v)
-  at = k .attained
-
-  pub few : (v : ℕ) → v < 240 → (v ≡ end → ⊥) → word key v < unreached → word key v % 256 ≤ 193
-  few v b e h = let t = at v b e h in omega (arith, t .exact, t .few)
+  few : (v : ℕ) → v < 240 → (v ≡ end → ⊥) → (v ≡ start) ⊎ Final v → word key v % 256 ≤ 193
+  few v b e h = let t = k .attained v b e h in omega (arith, t .exact, t .few)
 
   inner-few : (u : ℕ) → G .Inner u → Final u → word key u % 256 ≤ 193
   inner-few u i h =
       let b = z .inner-below u i in
-      few u (omega arith) (λ (q : u ≡ end). omega (arith, z .end-above)) (omega (arith, k .reached))
+      few u (omega arith) (λ (q : u ≡ end). omega (arith, z .end-above)) (inr h)
 
   pub settled : Settled G start end Final L
   settled =
@@ -60,12 +58,12 @@ module _ (G : Graph) (start end : ℕ) (key : List ℕ) (z : Sized G start end) 
         end-zero = label-eq (omega (arith, k .end-zero)) (omega (arith, k .end-zero));
         relaxed-last = λ v x g. key-hop (word key v) (word key end) (G .cost v end) (omega (arith, k .relaxed-last v x g)) (omega (arith, k .end-zero));
         relaxed = λ v u x i g d. key-hop (word key v) (word key u) (G .cost v u) (k .relaxed v u x i g d) (inner-few u i d);
-        ahead = k .ahead;
-        leads = k .leads;
+        bound = k .bound;
+        consistent = k .consistent;
         open′ = λ u i.
-            elim (decLt (word key u + 256 * k .ahead u) (word key start)) [
+            elim (decLt (word key u + 256 * k .bound u) (word key start)) [
               | yes l ↦ inl l
-              | no l ↦ inr (key-above (word key u) (word key start) (k .ahead u) (omega arith))
+              | no l ↦ inr (key-above (word key u) (word key start) (k .bound u) (omega arith))
             ];
       }
 
@@ -81,23 +79,21 @@ module _ (G : Graph) (start end : ℕ) (key : List ℕ) (z : Sized G start end) 
       let h : word key v % 256 ≡ 1 + word key u % 256 = ap (λ (x : Label). x .hops) (t .sum) in
       record { edge = t .edge; sum = omega arith }
 
-  on-vertex : (v : ℕ) → On G start end key v → Attained G start end v (word key v)
-  on-vertex v o = at v (o .below) (o .not-end) (omega (arith, o .near k, k .reached))
+  module _ (v : ℕ) (o : On G start end key k v) where
+    near-start : word key v + 256 * k .bound v ≤ word key start
+    near-start =
+        ⊎-elim (λ (q : v ≡ start). omega (arith, ap (λ (x : ℕ). word key x + 256 * k .bound x) q, k .consistent .none)) (λ l. omega arith) (o .near)
 
-  pub start-on : On G start end key start
-  start-on = record { below = z .start-below; not-end = z .apart; near = λ j. omega (arith, j .leads .none) }
-
-  module _ (v : ℕ) (o : On G start end key v) where
     -- a tight straight leads to a mark whose key is final
-    tight-near : (j : Keyed G start end key) (u : ℕ) → TightKey G v u (word key v) (word key u) → word key u + 256 * j .ahead u < word key start
-    tight-near j u t = omega (arith, t .sum, o .near j, j .leads .step v u)
+    tight-final : (u : ℕ) → TightKey G v u (word key v) (word key u) → Final u
+    tight-final u t = omega (arith, t .sum, near-start, k .consistent .step v u)
 
     key-tight : (u : ℕ) → u < 192 → TightKey G v u (word key v) (word key u) → G .Inner u × Tightly v u
     key-tight u l t =
-        let f : Final u = tight-near k u t in
+        let f : Final u = tight-final u t in
         let i : G .Inner u =
         ⊎-elim (λ (q : u ≡ start). absurd (omega (arith, z .start-above))) (λ j. j)
-        (at u (omega arith) (λ (q : u ≡ end). omega (arith, z .end-above)) (omega (arith, k .reached)) .vertex) in
+        (k .attained u (omega arith) (λ (q : u ≡ end). omega (arith, z .end-above)) (inr f) .vertex) in
         let h = inner-few u i f in (
           i,
           record { next = inr (i, f); edge = t .edge; sum = label-eq (omega (arith, t .sum)) (omega (arith, t .sum)) },
@@ -106,20 +102,20 @@ module _ (G : Graph) (start end : ℕ) (key : List ℕ) (z : Sized G start end) 
     -- some next mark is tight
     some : (u : ℕ) × Tightly v u
     unfolding settled
-    some = go (on-vertex v o .by) (on-vertex v o .chain) (label-eq (omega (arith, t .exact, t .few)) (omega (arith, t .exact, t .few)))
+    some = go (t .by) (t .chain) (label-eq (omega (arith, t .exact, t .few)) (omega (arith, t .exact, t .few)))
       where
         t : Attained G start end v (word key v)
-        t = on-vertex v o
+        t = k .attained v (o .below) (o .not-end) (o .near)
 
         go : (us : List ℕ) → Chain G end v us → labelOf (G .cost) us ≡ L v → (u : ℕ) × Tightly v u
         go us (last e) q = (end, first-last G start end Final L settled e q)
         go us (more {u = u} i e c) q =
-            (u, first-more G start end Final L settled (t .vertex) (key-below (word key v) (word key start) (k .ahead v) (o .near k)) i e c q .tight)
+            (u, first-more G start end Final L settled (t .vertex) (key-below (word key v) (word key start) (k .bound v) near-start) i e c q .tight)
 
     lowest : (r : ℕ) → Hop G end key v r → (w : ℕ) → Tightly v w → r ≤ w
     lowest r h w t =
         ⊎-elim
-        (λ (q : w ≡ end). ⊎-elim (λ l. omega (arith, z .end-above)) (λ e. omega arith) (h .bound))
+        (λ (q : w ≡ end). ⊎-elim (λ l. omega (arith, z .end-above)) (λ e. omega arith) (h .within))
         (λ d.
         let b = z .inner-below w (d .0) in
         elim (decLt w r) [ yes l ↦ absurd (h .least w l b (tight-key v w t)) | no l ↦ omega arith ])
@@ -141,14 +137,14 @@ module _ (G : Graph) (start end : ℕ) (key : List ℕ) (z : Sized G start end) 
     end-straight h = omega (arith, tight-key v end (end-next h) .sum, k .end-zero)
 
     module _ (r : ℕ) (h : Hop G end key v r) (ne : r ≡ end → ⊥) where
-      pub corner : r < 192
-      corner = ⊎-elim (λ l. l) (λ q. absurd (ne q)) (h .bound)
+      corner : r < 192
+      corner = ⊎-elim (λ l. l) (λ q. absurd (ne q)) (h .within)
 
       pub next-way : (us : List ℕ) → Way r us → Way v (v ∷ us)
       next-way us w = let t = key-tight r corner (h .tight corner) in onward (t .0) (t .1) (lowest r h) w
 
-      pub next-on : On G start end key r
-      next-on = record { below = omega (arith, corner); not-end = ne; near = λ j. omega (arith, tight-near j r (h .tight corner)) }
+      pub next-on : On G start end key k r
+      next-on = record { below = omega (arith, corner); not-end = ne; near = inr (tight-final r (h .tight corner)) }
 
       pub next-falls : word key r < word key v
       next-falls = omega (arith, h .tight corner .sum)
@@ -158,7 +154,7 @@ module _ (G : Graph) (start end : ℕ) (key : List ℕ) (z : Sized G start end) 
       next-straights =
           let b = corner in
           let t = h .tight corner .sum in
-          let f = few r (omega arith) ne (omega (arith, o .near k, k .reached)) in
+          let f = few r (omega arith) ne (inr (tight-final r (h .tight corner))) in
           omega arith
 
 -- a mark put behind the others
@@ -177,65 +173,79 @@ put-mark us u l =
 
 -- at v, n marks written
 pub record Going (G : Graph) (start end : ℕ) (key part : List ℕ) (v n : ℕ) : Type 0 where
-  pub on : On G start end key v
+  pub sized : Sized G start end
+  pub keyed : Keyed G start end key
+  pub on : On G start end key keyed v
   pub past : List ℕ
   pub count : n ≡ length past + 1
   pub room : n + word key v % 256 ≤ 194
   pub written : part ≡ marksOnly (past ++ (v ∷ []))
-  pub goes : (z : Sized G start end) (k : Keyed G start end key) (us : List ℕ) → Way G start end key z k v us → Way G start end key z k start (past ++ us)
+  pub goes : (us : List ℕ) → Way G start end key sized keyed v us → Way G start end key sized keyed start (past ++ us)
 
-module _ (G : Graph) (start end : ℕ) (key : List ℕ) (z : Sized G start end) (k : Keyed G start end key) where
-  pub going-none : (part : List ℕ) → Filled part 197 0 → Going G start end key (set part 3 start) start 1
-  going-none part e =
-      record {
-        on = start-on G start end key z k;
-        past = [];
-        count = refl;
-        room = omega (arith, few G start end key z k start (z .start-below) (z .apart) (k .reached));
-        written = ap (λ (p : List ℕ). set p 3 start) (filled-is part 197 0 e);
-        goes = λ z′ k′ us w. w;
-      }
+pub going-none : {G : Graph} {start end : ℕ} {key part : List ℕ} → Sized G start end → Keyed G start end key → part ≡ filled 197 0
+    → Going G start end key (set part 3 start) start 1
+unfolding filled
+going-none {G} {start} {end} {key} z k e =
+    record {
+      sized = z;
+      keyed = k;
+      on = record { below = z .start-below; not-end = z .apart; near = inl refl };
+      past = [];
+      count = refl;
+      room = omega (arith, few G start end key z k start (z .start-below) (z .apart) (inl refl));
+      written = ap (λ (p : List ℕ). set p 3 start) e;
+      goes = λ us w. w;
+    }
 
-  module _ (part : List ℕ) (v n r : ℕ) (g : Going G start end key part v n) (h : Hop G end key v r) where
+module _ {G : Graph} {start end : ℕ} {key part : List ℕ} {v n : ℕ} (g : Going G start end key part v n) where
+  marks-length : length (g .past ++ (v ∷ [])) ≡ n
+  marks-length = omega (arith, length-append (g .past) (v ∷ []), g .count)
+
+  pub part-length : length part ≡ 197
+  part-length = rw (g .written) (simp (length-append, length-replicate) (omega (arith, g .count, g .room)))
+
+  module _ {r : ℕ} (h : Hop G end key v r) where
     written-next : n < 194 → set part (n + 3) r ≡ marksOnly ((g .past ++ (v ∷ [])) ++ (r ∷ []))
     written-next l =
-        let e : length (g .past ++ (v ∷ [])) ≡ n = omega (arith, length-append (g .past) (v ∷ []), g .count) in
         ap (λ (p : List ℕ). set p (n + 3) r) (g .written)
-        ∙ ap (λ (i : ℕ). set (marksOnly (g .past ++ (v ∷ []))) (i + 3) r) (sym e)
-        ∙ put-mark (g .past ++ (v ∷ [])) r (omega arith)
+        ∙ ap (λ (i : ℕ). set (marksOnly (g .past ++ (v ∷ []))) (i + 3) r) (sym marks-length)
+        ∙ put-mark (g .past ++ (v ∷ [])) r (omega (arith, marks-length))
 
     straight-left : Dec (r ≡ end) → 1 ≤ word key v % 256
-    straight-left (yes q) = end-straight G start end key z k v (g .on) (subst (Hop G end key v) q h)
-    straight-left (no q) = omega (arith, next-straights G start end key z k v (g .on) r h q)
+    straight-left (yes q) = end-straight G start end key (g .sized) (g .keyed) v (g .on) (subst (Hop G end key v) q h)
+    straight-left (no q) = omega (arith, next-straights G start end key (g .sized) (g .keyed) v (g .on) r h q)
 
     pub next-below : r < 240
-    next-below = ⊎-elim (λ l. omega arith) (λ e. omega (arith, z .end-below)) (h .bound)
+    next-below = ⊎-elim (λ l. omega arith) (λ e. omega (arith, g .sized .end-below)) (h .within)
 
     pub next-room : n < 194
     next-room = omega (arith, g .room, straight-left (ℕ-discrete r end))
 
     pub going-falls : (r ≡ end → ⊥) → word key r < word key v
-    going-falls ne = next-falls G start end key z k v (g .on) r h ne
+    going-falls ne = next-falls G start end key (g .sized) (g .keyed) v (g .on) r h ne
 
     pub going-next : (r ≡ end → ⊥) → Going G start end key (set part (n + 3) r) r (n + 1)
     going-next ne =
         record {
-          on = next-on G start end key z k v (g .on) r h ne;
+          sized = g .sized;
+          keyed = g .keyed;
+          on = next-on G start end key (g .sized) (g .keyed) v (g .on) r h ne;
           past = g .past ++ (v ∷ []);
-          count = omega (arith, length-append (g .past) (v ∷ []), g .count);
-          room = omega (arith, g .room, next-straights G start end key z k v (g .on) r h ne);
+          count = omega (arith, marks-length);
+          room = omega (arith, g .room, next-straights G start end key (g .sized) (g .keyed) v (g .on) r h ne);
           written = written-next next-room;
-          goes = λ z′ k′ us w. rw append-assoc (g .goes z′ k′ (v ∷ us) (next-way G start end key z′ k′ v (g .on) r h ne us w));
+          goes = λ us w. rw append-assoc (g .goes (v ∷ us) (next-way G start end key (g .sized) (g .keyed) v (g .on) r h ne us w));
         }
 
     pub arrived : r ≡ end → Walked G start end key (set part (n + 3) r) (n + 1)
     arrived q =
-        let w = g .goes z k (v ∷ end ∷ []) (end-way G start end key z k v (g .on) (subst (Hop G end key v) q h)) in
+        let w = g .goes (v ∷ end ∷ []) (end-way G start end key (g .sized) (g .keyed) v (g .on) (subst (Hop G end key v) q h)) in
+        let s = settled G start end key (g .sized) (g .keyed) in
         record {
           marks = g .past ++ (v ∷ end ∷ []);
-          route = walk-route G start end (Final G start end key z k) (L G start end key z k) (settled G start end key z k) w;
+          route = walk-route G start end (Final G start end key (g .sized) (g .keyed)) (L G start end key (g .sized) (g .keyed)) s w;
           count = omega (arith, length-append (g .past) (v ∷ end ∷ []), g .count);
           fits = omega (arith, next-room);
-          length-is = ap (λ (l : Label). l .len) (walk-label G start end (Final G start end key z k) (L G start end key z k) (settled G start end key z k) w);
+          length-is = ap (λ (l : Label). l .len) (walk-label G start end (Final G start end key (g .sized) (g .keyed)) (L G start end key (g .sized) (g .keyed)) s w);
           written = written-next next-room ∙ ap marksOnly (append-assoc (g .past) (v ∷ []) (r ∷ []) ∙ ap (λ (u : ℕ). g .past ++ (v ∷ u ∷ [])) q);
         }

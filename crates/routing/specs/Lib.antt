@@ -1,3 +1,2 @@
 pub mod Routes
-pub mod Lead
-pub mod Keys
+pub mod inner

@@ -1,25 +1,12 @@
--- What the route table holds. Document 01, "Chain", "Route" and the row "routes" of the table.
+-- What the route table holds. Document 01, "Route" and the row "routes" of the table.
 use mathlib.Core.Path.{_≡_}
 use mathlib.Core.List.{List, _∷_, _++_}
-use mathlib.Core.Bool.{true}
 use Prim.Native.Nat.{ℕ, _*_, _-_, _<_}
 use lib.ListN.{length, replicate}
 use Rattle.geometry.specs.Words.{word}
-use Rattle.geometry.specs.Length.{lengthOf}
-use Rattle.paths.specs.Path.{Graph, total, IsRoute, NoChain}
-use Rattle.tables.specs.Tables.{Records, isCorner, placeOf, pairByte, firstEnd, secondEnd, routeWords}
-
--- the straight between two marks is clear, as the pair table says
-abbrev pub ByBytes : List ℕ → ℕ → ℕ → Type 0
-ByBytes pairs v u = pairByte pairs v u ≡ 254
-
--- what a straight costs: its length
-unfoldable pub cost : Records → ℕ → ℕ → ℕ
-cost R v u = lengthOf (placeOf R v) (placeOf R u)
-
--- the graph that a run is routed in: it bends at corners of present blocks, and takes clear straights between different marks
-abbrev pub graph : Records → (ℕ → ℕ → Type 0) → Graph
-graph R Clear = record { Inner = λ u. isCorner (R .blocks) u ≡ true; Edge = λ v u. (v ≡ u → ⊥) × Clear v u; cost = cost R }
+use Rattle.paths.specs.Path.{total, IsRoute, NoChain}
+use Rattle.tables.specs.Tables.{Records, firstEnd, secondEnd, routeWords}
+use Rattle.search.specs.Network.{ByBytes, cost, graph}
 
 -- the words of a found route: state 1, length, count, the marks, then zeros
 abbrev pub foundWords : Records → List ℕ → List ℕ

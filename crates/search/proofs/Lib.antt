@@ -1,0 +1,4 @@
+pub mod Steps
+pub mod Network
+pub mod LowerBounds
+pub mod Settling

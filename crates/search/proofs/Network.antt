@@ -1,0 +1,42 @@
+-- The graph that a run is routed in: where its marks are numbered, and how long its straights are.
+use mathlib.Core.Path.{_≡_}
+use mathlib.Core.Bool.{true, and-eq-true-iff}
+use mathlib.Core.List.{List}
+use Prim.Native.Nat.{ℕ, _*_, _%_, _/_, _<_, _≤_}
+use native.Mathlib.Omega.{arith}
+use lib.Dec.{ltb}
+use borrow.Author.Tests.{ltb-true}
+use Rattle.paths.specs.Path.{Graph}
+use Rattle.geometry.specs.Words.{word}
+use Rattle.lengths.proofs.Roots.{length-bound}
+use Rattle.tables.specs.Tables.{Records, isCorner, placeOf, firstEnd, secondEnd}
+use Rattle.tables.specs.inner.Fit.{Fit}
+use Rattle.tables.proofs.Marks.{place-in-range}
+use Rattle.search.specs.Network.{cost, graph}
+
+pub corner-below : (blocks : List ℕ) (u : ℕ) → isCorner blocks u ≡ true → u < 192
+unfolding isCorner
+corner-below blocks u h = ltb-true u 192 (and-eq-true-iff (ltb u 192) (ltb (u % 8) (word blocks (17 * (u / 8)))) .0 h .0)
+
+-- what the search for one run uses of its graph
+pub record Sized (G : Graph) (start end : ℕ) : Type 0 where
+  pub inner-below : (u : ℕ) → G .Inner u → u < 192
+  pub cost-small : (v u : ℕ) → v < 240 → u < 240 → G .cost v u ≤ 46340
+  pub start-above : 192 ≤ start
+  pub start-below : start < 240
+  pub end-above : 192 ≤ end
+  pub end-below : end < 240
+  pub apart : start ≡ end → ⊥
+
+pub sized : (R : Records) (Clear : ℕ → ℕ → Type 0) (m : ℕ) → Fit R → m < 24 → Sized (graph R Clear) (firstEnd m) (secondEnd m)
+unfolding cost
+sized R Clear m f l =
+    record {
+      inner-below = corner-below (R .blocks);
+      cost-small = λ v u a b. length-bound (placeOf R v) (placeOf R u) (place-in-range R v f a) (place-in-range R u f b);
+      start-above = omega arith;
+      start-below = omega arith;
+      end-above = omega arith;
+      end-below = omega arith;
+      apart = λ e. omega arith;
+    }
