@@ -9,8 +9,8 @@ use lib.ListN.{length}
 use lib.Signed.{ltZ, _<ℤ_, _≤ℤ_, ltZ-yes, ltZ-no, clashℤ}
 use Rattle.geometry.specs.Words.{Point}
 use Rattle.geometry.specs.Obstruction.{sideTurn, Obstructs}
-use Rattle.geometry.specs.Convexity.{allBelow}
-use Rattle.geometry.proofs.Below.{all-at, all-yes}
+use Rattle.lists.specs.Lists.{allBelow}
+use Rattle.lists.proofs.Below.{all-at, all-yes}
 use Rattle.geometry.proofs.Sides.{Crossed}
 use Rattle.geometry.proofs.Obstructing.{obstructs-iff}
 

@@ -7,13 +7,14 @@ use lib.Dec.{lit<, lit≤}
 use lib.ListN.{replicate}
 use Rattle.geometry.specs.Words.{Point, point}
 use Rattle.geometry.specs.Obstruction.{turn, sideTurn, Obstructs}
-use Rattle.geometry.specs.Convexity.{allBelow, sideTest, convex}
-use Rattle.geometry.specs.Length.{lengthOf, rootUp}
-use Rattle.geometry.proofs.Roots.{root-at}
-use Rattle.visibility.specs.Visibility.{PairIs}
+use Rattle.geometry.specs.Convexity.{sideTest, convex}
+use Rattle.lists.specs.Lists.{allBelow}
+use Rattle.lengths.specs.Length.{lengthOf, rootUp}
+use Rattle.lengths.proofs.Roots.{root-at}
+use Rattle.visibility.specs.Visibility.{PairIs, ByPlaces}
 use Rattle.paths.specs.Path.{total}
-use Rattle.routing.specs.Routes.{cost, RouteIs}
-use Rattle.yard.specs.Drawing.{ByPlaces}
+use Rattle.routing.specs.Routes.{RouteIs}
+use Rattle.search.specs.Network.{cost}
 use Rattle.trials.proofs.Sight.{obstructed, seen-hidden, seen-clear}
 use Rattle.trials.proofs.Yards.{S, yard, byte-hidden, byte-clear, route-round, route-length, ends-inside, starts-inside}
 

@@ -15,19 +15,19 @@ use lib.Seq.{getD-drop}
 use borrow.Author.Tests.{ltb-true, leb-true, eqb-true}
 use Rattle.geometry.specs.Words.{Point, point, word, placesFrom, blockWords}
 use Rattle.geometry.specs.Obstruction.{turn, sideTurn, Obstructs, Hidden}
-use Rattle.geometry.specs.Convexity.{allBelow}
-use Rattle.geometry.specs.Length.{squared, lengthOf, rootUp}
-use Rattle.geometry.proofs.Roots.{root-is, root-at}
-use Rattle.geometry.proofs.Below.{all-at}
+use Rattle.lists.specs.Lists.{allBelow}
+use Rattle.lengths.specs.Length.{squared, lengthOf, rootUp}
+use Rattle.lengths.proofs.Roots.{root-is, root-at}
+use Rattle.lists.proofs.Below.{all-at}
 use Rattle.geometry.proofs.Obstructing.{obstructs-iff}
 use Rattle.tables.specs.Tables.{Records, stored, runWords, isCorner, isEnd, present, placeOf}
 use Rattle.tables.specs.Written.{placeWords, blockRecord, runRecord}
 use Rattle.tables.proofs.Splices.{word-zeros, block-first}
-use Rattle.visibility.specs.Visibility.{bothPresent, PairIs, clear, hidden}
+use Rattle.visibility.specs.Visibility.{bothPresent, PairIs, clear, hidden, ByPlaces}
 use Rattle.paths.specs.Path.{Graph, Chain, last, more, NoChain, total}
 use Rattle.paths.proofs.Labels.{Label, label, hop, _≼_, lower, tied, Source, Settled, Tight, Walk, arrive, onward, walk-route}
-use Rattle.routing.specs.Routes.{cost, graph, RouteIs, found, noWay}
-use Rattle.yard.specs.Drawing.{ByPlaces}
+use Rattle.routing.specs.Routes.{RouteIs, found, noWay}
+use Rattle.search.specs.Network.{cost, graph}
 use Rattle.trials.proofs.Sight.{obstructed, seen-hidden, seen-clear, or-else, holds}
 
 abbrev pub S : List Point
@@ -132,7 +132,7 @@ module _ (p q : Point) where
   byte-hidden o = hidden ends-there (lit< tt) (rw (first-place, second-place) (by-S p q o)) (λ n l h. omega arith)
 
   pub byte-clear : (Obstructs S p q → ⊥) → PairIs (yard p q) 192 193 254
-  byte-clear c = clear ends-there (λ n l h. c (only-S p q n (rw (first-place, second-place) at h))) refl
+  byte-clear c = clear ends-there (record { seen = λ n l h. c (only-S p q n (rw (first-place, second-place) at h)) }) refl
 
 abbrev Ways : Records → Graph
 Ways R = graph R (ByPlaces R)
@@ -140,11 +140,11 @@ Ways R = graph R (ByPlaces R)
 -- a run with an end at (15,15) has no way
 module _ (p : Point) where
   never-there : {v : ℕ} {vs : List ℕ} → Chain (Ways (yard p (point 15 15))) 193 v vs → ⊥
-  never-there (last {v} e) = e .1 .1 0 (lit< tt) (rw (second-place p (point 15 15)) (by-S _ _ (to-inside (placeOf (yard p (point 15 15)) v))))
+  never-there (last {v} e) = e .1 .1 .seen 0 (lit< tt) (rw (second-place p (point 15 15)) (by-S _ _ (to-inside (placeOf (yard p (point 15 15)) v))))
   never-there (more i e c) = never-there c
 
   never-away : {u : ℕ} → Ways (yard (point 15 15) p) .Edge 192 u → ⊥
-  never-away {u} e = e .1 .1 0 (lit< tt) (rw (first-place (point 15 15) p) (by-S _ _ (from-inside (placeOf (yard (point 15 15) p) u))))
+  never-away {u} e = e .1 .1 .seen 0 (lit< tt) (rw (first-place (point 15 15) p) (by-S _ _ (from-inside (placeOf (yard (point 15 15) p) u))))
 
   no-leaving : NoChain (Ways (yard (point 15 15) p)) 192 193
   no-leaving vs (last e) = never-away e
@@ -198,7 +198,7 @@ step : (v u : ℕ) → passes v u ≡ true → G .Edge v u → L v ≼ hop (cost
 unfolding passes cost lengthOf
 step v u h e =
     let seen : obstructed S (placeOf R v) (placeOf R u) || (leb (L v .hops) (1 + L u .hops) && far v u) ≡ true = or-else (eqb v u) _ h (λ q. e .0 (eqb-true v u q)) in
-    let long = or-else (obstructed S (placeOf R v) (placeOf R u)) _ seen (λ q. e .1 .1 0 (lit< tt) (by-S _ _ (seen-hidden S _ _ q))) in
+    let long = or-else (obstructed S (placeOf R v) (placeOf R u)) _ seen (λ q. e .1 .1 .seen 0 (lit< tt) (by-S _ _ (seen-hidden S _ _ q))) in
     let two = and-eq-true-iff (leb (L v .hops) (1 + L u .hops)) (far v u) .0 long in
     let fewer : L v .hops ≤ 1 + L u .hops = leb-true _ _ (two .0) in
     let n = squared (placeOf R v) (placeOf R u) in
@@ -232,8 +232,8 @@ settled =
       end-zero = refl;
       relaxed-last = λ v s e. step v 193 (pass v 193 s (inr refl)) e;
       relaxed = λ v u s i e d. step v u (pass v u s (inl (corner-low u i))) e;
-      ahead = λ v. 0;
-      leads = record { none = refl; step = λ v u. omega arith };
+      bound = λ v. 0;
+      consistent = record { none = refl; step = λ v u. omega arith };
       open′ = λ u i. inl tt;
     }
 
@@ -254,7 +254,7 @@ pub route-length : total (cost R) (192 ∷ 0 ∷ 1 ∷ 193 ∷ []) ≡ 34
 route-length = rw (first-length, middle-length, last-length)
 
 open-straight : (v u : ℕ) → (v ≡ u → ⊥) → bothPresent R v u ≡ true → obstructed S (placeOf R v) (placeOf R u) ≡ false → G .Edge v u
-open-straight v u d b o = (d, (b, λ n l h. seen-clear S _ _ o (only-S _ _ n h)))
+open-straight v u d b o = (d, (b, record { seen = λ n l h. seen-clear S _ _ o (only-S _ _ n h) }))
 
 abbrev Next : ℕ → ℕ → Type 0
 Next v u = Tight G 192 193 Everywhere L settled v u

@@ -1,13 +1,1 @@
-pub mod Sound
-pub mod Rerouting
-pub mod Replay
-pub mod Filled
-pub mod Lengths
-pub mod Copies
-pub mod Bridge
-pub mod Answers
-pub mod Replacing
-pub mod Unique
 pub mod Checking
-pub mod Accepting
-pub mod Demands

@@ -1,0 +1,69 @@
+-- Every sound book has a drawing; by `drawn-unique` it has just one.
+use mathlib.Core.Path.{_≡_, refl, sym, _∙_}
+use mathlib.Core.Logic.{_⊎_, inl, inr}
+use mathlib.Core.List.{List, []}
+use mathlib.Core.Bool.{true≢false}
+use Prim.Native.Nat.{ℕ, _*_, _<_}
+use lib.ListN.{getD}
+use Rattle.geometry.specs.Words.{Point, word}
+use Rattle.tables.specs.Tables.{Records, Tables, stored, tables}
+use Rattle.tables.specs.Written.{blockRecord, runRecord}
+use Rattle.tables.proofs.Splices.{blockRecord-length, run-first}
+use Rattle.tables.proofs.Joined.{RecordTable, records-exist, PairTable, pairs-exist}
+use Rattle.visibility.specs.Visibility.{ByPlaces, PairIs, absent, clear, hidden}
+use Rattle.visibility.proofs.Exists.{pair-exists}
+use Rattle.routing.specs.Routes.{RouteIs}
+use Rattle.routing.proofs.Fits.{route-exists}
+use Rattle.book.specs.Book.{Book, Edit, emptyBook, afterAll}
+use Rattle.book.specs.Drawing.{Drawn}
+use Rattle.records.proofs.Places.{RunPlace, unused, two, block-small, run-full}
+use Rattle.book.proofs.Sound.{Sound, empty-sound, all-sound}
+
+-- a pair's byte says whether its straight is clear
+places-dec : (R : Records) (v u : ℕ) → Dec (ByPlaces R v u)
+places-dec R v u = go (pair-exists R v u .0) (pair-exists R v u .1)
+  where
+    go : (b : ℕ) → PairIs R v u b → Dec (ByPlaces R v u)
+    go b (absent e o) = no (λ h. true≢false (sym (h .0) ∙ e))
+    go b (clear e c o) = yes (e, c)
+    go b (hidden e l h m) = no (λ c. c .1 .seen b l h)
+
+-- a run's record begins with 0 or 1
+run-flag : (ps : List Point) → RunPlace ps → (word (runRecord ps) 0 ≡ 0) ⊎ (word (runRecord ps) 0 ≡ 1)
+unfolding runRecord
+run-flag ps unused = inl refl
+run-flag ps (two h) = inr refl
+
+pub drawn-exists : (b : Book) → Sound b → (T : Tables) × Drawn b T
+drawn-exists b s = (tables (blocks .words) (runs .words) (pairs .words) (routes .words), drawn)
+  where
+    blocks : RecordTable 17 (λ n ws. ws ≡ blockRecord (getD (b .blocks) n [])) 24
+    blocks = records-exist 17 _ 24 (λ n l. (blockRecord (getD (b .blocks) n []), refl, blockRecord-length _ (block-small _ (s .blocks n))))
+
+    runs : RecordTable 5 (λ m ws. ws ≡ runRecord (getD (b .runs) m [])) 24
+    runs = records-exist 5 _ 24 (λ m l. (runRecord (getD (b .runs) m []), refl, run-full _ (s .runs m)))
+
+    R : Records
+    R = stored (blocks .words) (runs .words)
+
+    pairs : PairTable (PairIs R)
+    pairs = pairs-exist (PairIs R) (pair-exists R)
+
+    flag : (m : ℕ) → m < 24 → (word (R .runs) (5 * m) ≡ 0) ⊎ (word (R .runs) (5 * m) ≡ 1)
+    flag m l = rw (← run-first (runs .words) m, runs .each m l) (run-flag _ (s .runs m))
+
+    routes : RecordTable 197 (RouteIs R (ByPlaces R)) 24
+    routes = records-exist 197 _ 24 (λ m l. route-exists R (ByPlaces R) (places-dec R) m (flag m l))
+
+    drawn : Drawn b (tables (blocks .words) (runs .words) (pairs .words) (routes .words))
+    drawn =
+        record {
+          sizes = (blocks .sized, runs .sized, pairs .sized, routes .sized);
+          blocks = blocks .each;
+          runs = runs .each;
+          right = record { pairs = record { each = pairs .each }; routes = routes .each };
+        }
+
+-- so has what any list of edits leaves
+pub history-drawn-exists : (es : List Edit) → (T : Tables) × Drawn (afterAll emptyBook es) T
+history-drawn-exists es = drawn-exists (afterAll emptyBook es) (all-sound emptyBook es empty-sound)

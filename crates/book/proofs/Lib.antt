@@ -1,0 +1,9 @@
+pub mod Questions
+pub mod Stored
+pub mod Sound
+pub mod Rerouting
+pub mod Demand3
+pub mod Rewrites
+pub mod Unique
+pub mod Checks
+pub mod Exists

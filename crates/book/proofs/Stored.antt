@@ -1,0 +1,63 @@
+-- What the book of the stored records says, in the words of the tables.
+use mathlib.Core.Path.{_≡_, refl, sym, ap, _∙_}
+use mathlib.Core.List.{List, [], _∷_, _++_}
+use Prim.Native.Nat.{ℕ, zero, suc, _+_, _*_, _<_}
+use native.Mathlib.Omega.{arith}
+use native.Mathlib.Decide.{decLt}
+use lib.Dec.{eqb, eqb·suc-zero}
+use lib.ListN.{length, getD, length-append, List·getD-append}
+use lib.Seq.{getD-at, ext-getD}
+use Rattle.geometry.specs.Words.{Point, word, blockWords, placesFrom, corners}
+use Rattle.tables.specs.Tables.{Records, runWords}
+use Rattle.tables.proofs.Splices.{block-first, run-first}
+use Rattle.book.specs.Book.{free}
+use Rattle.book.specs.Edits.{upTo, bookOf}
+
+pub upTo-length : (n : ℕ) (f : ℕ → List Point) → length (upTo n f) ≡ n
+unfolding upTo
+upTo-length zero f = refl
+upTo-length (suc n) f = length-append (upTo n f) (f n ∷ []) ∙ omega (arith, upTo-length n f)
+
+pub upTo-at : (n : ℕ) (f : ℕ → List Point) (k : ℕ) → k < n → getD (upTo n f) k [] ≡ f k
+unfolding upTo
+upTo-at zero f k h = absurd (omega arith)
+upTo-at (suc n) f k h = go (decLt k n) (upTo-at n f k)
+  where
+    go : Dec (k < n) → (k < n → getD (upTo n f) k [] ≡ f k) → getD (upTo n f ++ (f n ∷ [])) k [] ≡ f k
+    go (yes l) ih = List·getD-append (upTo n f) (f n ∷ []) [] k (omega (arith, upTo-length n f)) ∙ ih l
+    go (no l) ih =
+        let e : k ≡ n = omega arith in
+        rw e (getD-at (upTo n f) (f n) [] [] n (upTo-length n f))
+
+pub upTo-is : (l : List (List Point)) (f : ℕ → List Point) → length l ≡ 24 → ((k : ℕ) → k < 24 → f k ≡ getD l k []) → upTo 24 f ≡ l
+upTo-is l f e h =
+    ext-getD [] (upTo 24 f) l (upTo-length 24 f ∙ sym e)
+    λ k b. let c : k < 24 = omega (arith, upTo-length 24 f) in upTo-at 24 f k c ∙ h k c
+
+pub book-block : (R : Records) (n : ℕ) → n < 24 → getD (bookOf R .blocks) n [] ≡ corners (blockWords (R .blocks) n)
+unfolding bookOf
+book-block R n h = upTo-at 24 (λ k. corners (blockWords (R .blocks) k)) n h
+
+pub book-run : (R : Records) (m : ℕ) → m < 24 → getD (bookOf R .runs) m [] ≡ placesFrom (runWords (R .runs) m) 1 (2 * word (runWords (R .runs) m) 0)
+unfolding bookOf
+book-run R m h = upTo-at 24 (λ k. placesFrom (runWords (R .runs) k) 1 (2 * word (runWords (R .runs) k) 0)) m h
+
+-- questions 4 and 5 look at a record's first word
+free-places : (l : List (List Point)) (n : ℕ) (t : List ℕ) (i c : ℕ) → getD l n [] ≡ placesFrom t i c → free l n ≡ eqb c 0
+unfolding free placesFrom
+free-places l n t i zero e = rw (e, free)
+free-places l n t i (suc c) e = rw (e, free) (sym (eqb·suc-zero c))
+
+pub block-free : (R : Records) (n : ℕ) → n < 24 → free (bookOf R .blocks) n ≡ eqb (word (R .blocks) (17 * n)) 0
+block-free R n h =
+    free-places (bookOf R .blocks) n (blockWords (R .blocks) n) 1 (word (blockWords (R .blocks) n) 0) (book-block R n h)
+    ∙ ap (λ (w : ℕ). eqb w 0) (block-first (R .blocks) n)
+
+twice-zero : (w : ℕ) → eqb (2 * w) 0 ≡ eqb w 0
+twice-zero zero = refl
+twice-zero (suc w) = let e : 2 * suc w ≡ suc (2 * w + 1) = omega arith in rw (e, eqb·suc-zero (2 * w + 1), eqb·suc-zero w)
+
+pub run-free : (R : Records) (m : ℕ) → m < 24 → free (bookOf R .runs) m ≡ eqb (word (R .runs) (5 * m)) 0
+run-free R m h =
+    free-places (bookOf R .runs) m (runWords (R .runs) m) 1 (2 * word (runWords (R .runs) m) 0) (book-run R m h)
+    ∙ twice-zero (word (runWords (R .runs) m) 0) ∙ ap (λ (w : ℕ). eqb w 0) (run-first (R .runs) m)

@@ -1,0 +1,6 @@
+pub mod Questions
+pub mod Book
+pub mod Drawing
+pub mod Edits
+pub mod History
+pub mod inner

@@ -1,6 +1,0 @@
-pub mod Questions
-pub mod Book
-pub mod Drawing
-pub mod Edits
-pub mod History
-pub mod Filling
