@@ -5,10 +5,10 @@ use Prim.Native.Nat.{ℕ}
 use native.Mathlib.Omega.{arith}
 use lib.ListN.{length, take}
 use Rattle.tables.specs.Tables.{Tables}
-use Rattle.yard.specs.Book.{Edit, emptyBook, answers, afterAll}
-use Rattle.yard.specs.Drawing.{Drawn}
-use Rattle.yard.specs.Edits.{Started}
-use Rattle.yard.proofs.Replay.{demand3}
+use Rattle.book.specs.Book.{Edit, emptyBook, answers, afterAll}
+use Rattle.book.specs.Drawing.{Drawn}
+use Rattle.book.specs.Edits.{Started}
+use Rattle.book.proofs.Demand3.{demand3}
 use Rattle.replay.specs.Replay.{Reads, atEnd, atStop, onward, Replayed}
 
 pub replay-drawn : (f : List ℕ) (T₀ T T′ : Tables) (old ws : List ℕ) (count number at : ℕ)

@@ -9,15 +9,16 @@ use lib.Seq.{take-suc-set, drop-set-lt, drop-drop}
 use types.Run.{OneOf}
 use denote.Enum.Declared.{tagOf}
 use Rattle.tables.specs.Tables.{Tables}
-use Rattle.yard.specs.Book.{Edit}
-use Rattle.yard.specs.Edits.{Called}
-use Rattle.yard.specs.History.{Calls, noCalls, call}
+use Rattle.book.specs.Book.{Edit}
+use Rattle.book.specs.Edits.{Called}
+use Rattle.book.specs.History.{Calls, noCalls, call}
 use Rattle.yardfile.specs.declared.Item.{Item}
 use Rattle.yardfile.specs.declared.Reading.{Reading}
 use Rattle.yardfile.specs.declared.Reading.the-variants.{Found}
 use Rattle.yardfile.specs.File.{readAt, numberOf}
 use Rattle.yardfile.proofs.Reading as R
-use Rattle.replay.specs.Replay.{Reads, onward, editOf, Replayed}
+use Rattle.replay.specs.Replay.{Reads, onward, Replayed}
+use Rattle.fields.specs.Asked.{editOf}
 use Rattle.replay.proofs.Taken.{taken, ended}
 
 calls-more : {es : List Edit} {T T₁ T₂ : Tables} {rs : List ℕ} {e : Edit} {r : ℕ} → Calls es T rs T₁ → Called e T₁ r T₂ → Calls (es ++ (e ∷ [])) T (rs ++ (r ∷ [])) T₂

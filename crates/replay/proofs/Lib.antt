@@ -1,4 +1,3 @@
-pub mod Fields
 pub mod Taken
 pub mod Going
 pub mod Drawn

@@ -8,6 +8,7 @@ use lib.Dec.{leb, eqb}
 use lib.ListN.{length}
 use types.Run.{OneOf, miss}
 use borrow.Author.Tests.{leb-true}
+use Rattle.lists.proofs.Every.{both}
 use denote.Enum.Declared.{tagOf}
 use Rattle.yardfile.specs.declared.Item.{Item}
 use Rattle.yardfile.specs.declared.Reading.{Reading}
@@ -16,11 +17,7 @@ use Rattle.yardfile.specs.File.{byte, headRight, bodySize, kindRight, recordWho
 use Rattle.yardfile.proofs.Cases.{head-small, whole-fits, body-block, body-move, body-ends, body-new-ends}
 use Rattle.yardfile.proofs.Reading as R
 use Rattle.replay.specs.Replay.{Reads, atEnd, atStop}
-use Rattle.replay.specs.Whole.{Whole}
-
-both : (a b : Bool) → a && b ≡ true → (a ≡ true) × (b ≡ true)
-both true b h = (refl, h)
-both false b h = (h, let z : false ≡ true = h in cc)
+use Rattle.apply.specs.inner.Whole.{Whole}
 
 whole-kind : (f : List ℕ) (at : ℕ) → recordWhole f at ≡ true → (1 ≤ byte f at) × (byte f at ≤ 6)
 unfolding recordWhole

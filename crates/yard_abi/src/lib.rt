@@ -4,8 +4,8 @@ ghost use mathlib.Core.List.{[], _∷_};
 ghost use lib.ListN.{length};
 ghost use Rattle.geometry.specs.Words.{point};
 ghost use Rattle.tables.specs.Tables.{tables};
-ghost use Rattle.yard.specs.Book.{addBlock, removeBlock, moveBlock, addRun, removeRun, moveRun};
-ghost use Rattle.yard.specs.Edits.{Started, Called, Checked};
+ghost use Rattle.book.specs.Book.{addBlock, removeBlock, moveBlock, addRun, removeRun, moveRun};
+ghost use Rattle.book.specs.Edits.{Started, Called, Checked};
 ghost use Rattle.yard_abi.specs.Reading.{ReadInto};
 use geometry::Place;
 use yardfile::Reading;
@@ -36,7 +36,7 @@ pub extern "C" fn yard_add_block(
         (tables (now (blocks .entry)) (now (runs .entry)) (now (pairs .entry)) (now (routes .entry)))
         r (tables (now (blocks .exit)) (now (runs .exit)) (now (pairs .exit)) (now (routes .exit))) ⌝ }
 {
-    yard::add_block(blocks, runs, pairs, routes, number, corners)
+    block_edits::add_block(blocks, runs, pairs, routes, number, corners)
 }
 
 #[no_mangle]
@@ -51,7 +51,7 @@ pub extern "C" fn yard_remove_block(
         (tables (now (blocks .entry)) (now (runs .entry)) (now (pairs .entry)) (now (routes .entry)))
         r (tables (now (blocks .exit)) (now (runs .exit)) (now (pairs .exit)) (now (routes .exit))) ⌝ }
 {
-    yard::remove_block(blocks, runs, pairs, routes, number)
+    block_edits::remove_block(blocks, runs, pairs, routes, number)
 }
 
 #[no_mangle]
@@ -68,7 +68,7 @@ pub extern "C" fn yard_move_block(
         (tables (now (blocks .entry)) (now (runs .entry)) (now (pairs .entry)) (now (routes .entry)))
         r (tables (now (blocks .exit)) (now (runs .exit)) (now (pairs .exit)) (now (routes .exit))) ⌝ }
 {
-    yard::move_block(blocks, runs, pairs, routes, number, east, north)
+    block_edits::move_block(blocks, runs, pairs, routes, number, east, north)
 }
 
 #[no_mangle]
@@ -95,7 +95,7 @@ pub extern "C" fn yard_add_run(
         east: second_east,
         north: second_north,
     };
-    yard::add_run(blocks, runs, pairs, routes, number, first, second)
+    run_edits::add_run(blocks, runs, pairs, routes, number, first, second)
 }
 
 #[no_mangle]
@@ -110,7 +110,7 @@ pub extern "C" fn yard_remove_run(
         (tables (now (blocks .entry)) (now (runs .entry)) (now (pairs .entry)) (now (routes .entry)))
         r (tables (now (blocks .exit)) (now (runs .exit)) (now (pairs .exit)) (now (routes .exit))) ⌝ }
 {
-    yard::remove_run(blocks, runs, pairs, routes, number)
+    run_edits::remove_run(blocks, runs, pairs, routes, number)
 }
 
 #[no_mangle]
@@ -137,7 +137,7 @@ pub extern "C" fn yard_move_run(
         east: second_east,
         north: second_north,
     };
-    yard::move_run(blocks, runs, pairs, routes, number, first, second)
+    run_edits::move_run(blocks, runs, pairs, routes, number, first, second)
 }
 
 #[no_mangle]

@@ -1,5 +1,5 @@
 -- The answers of the reader, one law for each way out of the code.
-use mathlib.Core.Path.{_≡_, refl, sym, _∙_}
+use mathlib.Core.Path.{_≡_, sym, _∙_}
 use mathlib.Core.List.{List}
 use mathlib.Core.Bool.{Bool, true, false, not, _&&_, cond, and-false}
 use Prim.Native.Nat.{ℕ, suc, _+_, _*_, _-_, _<_, _≤_}
@@ -12,12 +12,9 @@ use mir.Syntax.{w16, w32}
 use mir.Val.{SFits, toZ, ofZ}
 use mir.ValLaws.{toZ-ofZ}
 use borrow.Author.Tests.{le-leb, lt-leb, lt-ltb, le-ltb, eq-eqb, ne-eqb, leb-true, not-true, not-false}
+use Rattle.lists.proofs.Every.{both}
 use Rattle.yardfile.specs.declared.Reading.the-variants.{Found, End, Refused}
 use Rattle.yardfile.specs.File.{byte, headRight, bodySize, kindRight, recordWhole, readAt, displacement}
-
-both : (a b : Bool) → a && b ≡ true → (a ≡ true) × (b ≡ true)
-both true b h = (refl, h)
-both false b h = (h, let z : false ≡ true = h in cc)
 
 pub past-end : (f : List ℕ) (at : ℕ) → length f ≤ at → 0 ≡ byte f at
 past-end f at h = sym (List·getD-eq-default f 0 h)

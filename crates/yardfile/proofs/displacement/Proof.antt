@@ -3,14 +3,8 @@ use borrow.Author.Needs.{needs}
 use Rattle.yardfile.proofs.displacement.Statement.{statement}
 use Rattle.yardfile.proofs.displacement.Tie as tie
 
-cast-result : tie.Need-cast-result
-cast-result c = search needs
-
 returns : tie.Need-returns
 returns c = search low-value
-
-cast-result-2 : tie.Need-cast-result-2
-cast-result-2 c = search needs
 
 sub-result : tie.Need-sub-result
 sub-result c = search wide-fits
@@ -23,4 +17,11 @@ returns-2 c = search high-value
 
 pub displacement-spec : {M : Type 1} → statement M
 displacement-spec =
-    tie.close (tie.spec cast-result returns cast-result-2 sub-result cast-result-3 returns-2)
+    tie.close
+    (tie.spec
+    (λ c. search needs)
+    returns
+    (λ c. search needs)
+    sub-result
+    cast-result-3
+    returns-2)

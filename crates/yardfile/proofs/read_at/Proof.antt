@@ -3,9 +3,6 @@ use borrow.Author.Needs.{needs}
 use Rattle.yardfile.proofs.read_at.Statement.{statement}
 use Rattle.yardfile.proofs.read_at.Tie as tie
 
-head-right-requires : tie.Need-head-right-requires
-head-right-requires c κs = search needs
-
 returns : tie.Need-returns
 returns c = search read-no-head
 
@@ -27,23 +24,8 @@ returns-5 c = search read-cut
 body-size-requires : tie.Need-body-size-requires
 body-size-requires c κs = (search file-size, search needs)
 
-shared-slice-read-t8 : tie.Need-shared-slice-read-t8
-shared-slice-read-t8 c = search needs
-
-add-t6 : tie.Need-add-t6
-add-t6 c = search needs
-
 shared-slice-read-t10 : tie.Need-shared-slice-read-t10
 shared-slice-read-t10 c = search number-inside
-
-add-t11 : tie.Need-add-t11
-add-t11 c = search needs
-
-add-t12 : tie.Need-add-t12
-add-t12 c = search needs
-
-add-t13 : tie.Need-add-t13
-add-t13 c = search needs
 
 returns-6 : tie.Need-returns-6
 returns-6 c = search read-found
@@ -52,7 +34,7 @@ pub read-at-spec : {M : Type 1} → statement M
 read-at-spec =
     tie.close
     (tie.spec
-    head-right-requires
+    (λ c κs. search needs)
     returns
     returns-2
     returns-3
@@ -60,10 +42,10 @@ read-at-spec =
     record-whole-requires
     returns-5
     body-size-requires
-    shared-slice-read-t8
-    add-t6
+    (λ c. search needs)
+    (λ c. search needs)
     shared-slice-read-t10
-    add-t11
-    add-t12
-    add-t13
+    (λ c. search needs)
+    (λ c. search needs)
+    (λ c. search needs)
     returns-6)

@@ -1,0 +1,129 @@
+// The edits whose arguments stand in a yard file: the fields at a position, read and handed to the call.
+ghost use mathlib.Core.Path.{_≡_};
+ghost use Prim.Native.Nat.{_+_, _*_, _≤_};
+ghost use lib.ListN.{length, take};
+ghost use Rattle.geometry.specs.Words.{pointOf};
+ghost use Rattle.tables.specs.Tables.{tables};
+ghost use Rattle.book.specs.Book.{addBlock, moveBlock, addRun, moveRun};
+ghost use Rattle.book.specs.Edits.{Called};
+ghost use Rattle.yardfile.specs.File.{byte, field, displacement, fieldsFrom};
+ghost use Rattle.fields.specs.Asked.{placeIn};
+use block_edits::add_block;
+use block_edits::move_block;
+use geometry::Place;
+use run_edits::add_run;
+use run_edits::move_run;
+use yardfile::displacement;
+use yardfile::field;
+
+// The place whose two coordinates stand at a position.
+fn place_in(file: &[u8], at: usize) -> Place
+    requires { ⌜ at + 4 ≤ length (now file) ⌝ }
+    ensures { λ r. ⌜ pointOf r ≡ placeIn (now (file .entry)) at ⌝ }
+{
+    let east = field(file, at);
+    let north = field(file, at + 2);
+    Place { east, north }
+}
+
+// The first n words are the n fields from a position on.
+fn words_from(file: &[u8], at: usize, n: usize) -> [u16; 510]
+    requires { ⌜ (at + 2 * n ≤ length (now file)) × (n ≤ 510) ⌝ }
+    ensures { λ r. ⌜ take n r ≡ fieldsFrom (now (file .entry)) at n ⌝ }
+{
+    let mut words = [0u16; 510];
+    let mut i = 0;
+    while i < n {
+        words[i] = field(file, at + 2 * i);
+        i += 1;
+    }
+    words
+}
+
+// Adds the block whose count byte stands at a position.
+pub fn add_block_at(
+    file: &[u8],
+    at: usize,
+    blocks: &mut [u16],
+    runs: &mut [u16],
+    pairs: &mut [u8],
+    routes: &mut [u32],
+    number: u32,
+) -> u32
+    requires { ⌜ (at + 1 + 4 * byte (now file) at ≤ length (now file)) × (length (now file) ≤ 8192) ⌝ }
+    ensures { λ r. ⌜ Called (addBlock number (fieldsFrom (now (file .entry)) (at + 1) (2 * byte (now (file .entry)) at)))
+        (tables (now (blocks .entry)) (now (runs .entry)) (now (pairs .entry)) (now (routes .entry)))
+        r (tables (now (blocks .exit)) (now (runs .exit)) (now (pairs .exit)) (now (routes .exit))) ⌝ }
+{
+    let n = 2 * (file[at] as usize);
+    let words = words_from(file, at + 1, n);
+    add_block(blocks, runs, pairs, routes, number, &words[..n])
+}
+
+// Moves a block by the displacement that stands at a position.
+pub fn move_block_at(
+    file: &[u8],
+    at: usize,
+    blocks: &mut [u16],
+    runs: &mut [u16],
+    pairs: &mut [u8],
+    routes: &mut [u32],
+    number: u32,
+) -> u32
+    requires { ⌜ at + 4 ≤ length (now file) ⌝ }
+    ensures { λ r. ⌜ Called (moveBlock number (displacement (field (now (file .entry)) at)) (displacement (field (now (file .entry)) (at + 2))))
+        (tables (now (blocks .entry)) (now (runs .entry)) (now (pairs .entry)) (now (routes .entry)))
+        r (tables (now (blocks .exit)) (now (runs .exit)) (now (pairs .exit)) (now (routes .exit))) ⌝ }
+{
+    let east = field(file, at);
+    let north = field(file, at + 2);
+    move_block(
+        blocks,
+        runs,
+        pairs,
+        routes,
+        number,
+        displacement(east),
+        displacement(north),
+    )
+}
+
+// Adds a run between the two places that stand at a position.
+pub fn add_run_at(
+    file: &[u8],
+    at: usize,
+    blocks: &mut [u16],
+    runs: &mut [u16],
+    pairs: &mut [u8],
+    routes: &mut [u32],
+    number: u32,
+) -> u32
+    requires { ⌜ at + 8 ≤ length (now file) ⌝ }
+    ensures { λ r. ⌜ Called (addRun number (placeIn (now (file .entry)) at) (placeIn (now (file .entry)) (at + 4)))
+        (tables (now (blocks .entry)) (now (runs .entry)) (now (pairs .entry)) (now (routes .entry)))
+        r (tables (now (blocks .exit)) (now (runs .exit)) (now (pairs .exit)) (now (routes .exit))) ⌝ }
+{
+    let first = place_in(file, at);
+    let second = place_in(file, at + 4);
+    add_run(blocks, runs, pairs, routes, number, first, second)
+}
+
+// Moves a run to the two places that stand at a position.
+pub fn move_run_at(
+    file: &[u8],
+    at: usize,
+    blocks: &mut [u16],
+    runs: &mut [u16],
+    pairs: &mut [u8],
+    routes: &mut [u32],
+    number: u32,
+) -> u32
+    requires { ⌜ at + 8 ≤ length (now file) ⌝ }
+    ensures { λ r. ⌜ Called (moveRun number (placeIn (now (file .entry)) at) (placeIn (now (file .entry)) (at + 4)))
+        (tables (now (blocks .entry)) (now (runs .entry)) (now (pairs .entry)) (now (routes .entry)))
+        r (tables (now (blocks .exit)) (now (runs .exit)) (now (pairs .exit)) (now (routes .exit))) ⌝ }
+{
+    let first = place_in(file, at);
+    let second = place_in(file, at + 4);
+    move_run(blocks, runs, pairs, routes, number, first, second)
+}
