@@ -6,6 +6,10 @@ pub mod Bound
 pub mod Narrowing
 pub mod Corners
 pub mod Obstructing
+pub mod Extremes
+pub mod Rounds
+pub mod Overlapping
+pub mod Edges
 pub mod Searching
 pub mod Convexities
 pub mod Translations

@@ -131,6 +131,10 @@ positive P f (pos zero) h = absurd (no-lt (ltb→lt 0 0 (h .lt)))
 positive P f (pos (suc n)) h = subst P (sym (posn (suc n))) (f n)
 positive P f (negsuc n) h = absurd (h .lt)
 
+pub nonneg : (P : ℤ → Type 0) → ((a : ℕ) → P (a ⊖ 0)) → (z : ℤ) → pos 0 ≤ℤ z → P z
+nonneg P f (pos n) h = subst P (sym (posn n)) (f n)
+nonneg P f (negsuc n) h = absurd (h .le)
+
 pub below-or-not : (a b : ℤ) → (a <ℤ b) ⊎ (b ≤ℤ a)
 below-or-not a b = go (ltZ a b) (λ t. t) (λ t. t)
   where
