@@ -10,6 +10,7 @@ pub mod Extremes
 pub mod Rounds
 pub mod Overlapping
 pub mod Edges
+pub mod Comparing
 pub mod Searching
 pub mod Convexities
 pub mod Translations

@@ -1,5 +1,6 @@
 -- The search for the lowest block that hides a segment: what is known of one block after k of its sides, and of the blocks passed.
 use mathlib.Core.Path.{_≡_, refl, sym, ap, _∙_, subst}
+use mathlib.Core.Bool.{Bool}
 use mathlib.Core.List.{List}
 use Prim.Native.Nat.{ℕ, suc, _+_, _-_, _*_, _<_, _≤_}
 use native.Mathlib.Decide.{decLt}
@@ -13,11 +14,15 @@ use lib.Seq.{getD-take, getD-drop}
 use Rattle.geometry.specs.Words.{Point, word, blockWords, corners}
 use Rattle.geometry.specs.inner.Bounds.{BoundedRecord, Bounded}
 use Rattle.geometry.specs.Obstruction.{sideTurn, Obstructs, Hidden}
+use Rattle.lists.specs.inner.Tells.{Tells}
+use Rattle.geometry.specs.Overlap.{overlaps}
+use Rattle.geometry.specs.inner.Overlapping.{FirstOverlapping}
 use Rattle.geometry.specs.inner.Sides.{Enters, Span, Small, Narrowed}
 use Rattle.geometry.proofs.Bound.{within-pos}
 use Rattle.geometry.proofs.Sides.{span-none, not-entered}
 use Rattle.geometry.proofs.Corners.{places-length}
 use Rattle.geometry.proofs.Obstructing.{by-turns, of-turns}
+use Rattle.geometry.proofs.Overlapping.{hidden-overlaps}
 
 pub block-word : (t : List ℕ) (n k : ℕ) → k < 17 → word (blockWords t n) k ≡ word t (17 * n + k)
 block-word t n k h = getD-take 17 (drop (17 * n) t) k 0 h ∙ getD-drop (17 * n) t k 0
@@ -32,6 +37,16 @@ record-bounded t n b h =
       count = let e : 17 * n + 0 ≡ 17 * n = omega arith in rw (block-word t n 0 (lit≤ tt), e) (b .counts n h);
       coordinates = λ i l. rw (block-word t n i l) (b .coordinates (17 * n + i) (omega arith));
     }
+
+-- the same of the part of the table that the code hands over
+abbrev pub part : List ℕ → ℕ → List ℕ
+part t n = take ((17 * n + 17) - 17 * n) (drop (17 * n) t)
+
+pub part-bounded : (t : List ℕ) (n : ℕ) → Bounded t → n < 24 → BoundedRecord (part t n)
+part-bounded t n b h = rw (part-is t n) (record-bounded t n b h)
+
+pub part-overlaps : (t : List ℕ) (n : ℕ) (a b : Point) {c : Bool} → Tells (overlaps (corners (part t n)) a b) c → Tells (overlaps (corners (blockWords t n)) a b) c
+part-overlaps t n a b h = rw (part-is t n) at h
 
 -- the block's turns, of both ends
 module _ (blocks : List ℕ) (n : ℕ) (a b : Point) where
@@ -111,3 +126,10 @@ none-more P from n f g k lo hi h = go (decLt k n)
     go : Dec (k < n) → ⊥
     go (yes l) = f k lo l h
     go (no l) = let e : k ≡ n = omega arith in g (subst P e h)
+
+-- the blocks that the search passes because they do not overlap
+pub none-passed : {blocks : List ℕ} {from to : ℕ} {a b : Point} {n : ℕ} → FirstOverlapping blocks from to a b n → (k : ℕ) → from ≤ k → k < n → Hidden blocks k a b → ⊥
+none-passed {blocks} {a} {b} f k lo hi h = f .passed k lo hi (hidden-overlaps blocks k a b h)
+
+pub none-between : (P : ℕ → Type 0) (from l n : ℕ) → ((k : ℕ) → from ≤ k → k < l → P k → ⊥) → ((k : ℕ) → l ≤ k → k < n → P k → ⊥) → (k : ℕ) → from ≤ k → k < n → P k → ⊥
+none-between P from l n f g k lo hi h = elim (decLt k l) [ yes r ↦ f k lo r h | no r ↦ g k (omega arith) hi h ]

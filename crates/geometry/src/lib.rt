@@ -1,7 +1,7 @@
 // Exact geometry on whole centimetres: turns, obstruction and convexity.
 ghost use mathlib.Core.Path.{_≡_};
 ghost use mathlib.Core.Logic.{_⊎_};
-ghost use Prim.Native.Nat.{_+_, _*_, _%_, _<_, _≤_};
+ghost use Prim.Native.Nat.{_+_, _*_, _%_, _<_, _≤_, min, max};
 ghost use lib.IntN.{pos, _-ℤ_, _*ℤ_};
 ghost use lib.Signed.{_<ℤ_, ltZ};
 ghost use mir.Syntax.{w64};
@@ -9,11 +9,14 @@ ghost use mir.Val.{SFits};
 ghost use Rattle.geometry.specs.Words.{pointOf, word, corners};
 ghost use Rattle.geometry.specs.inner.Bounds.{BoundedRecord, Bounded, InRange};
 ghost use Rattle.geometry.specs.Obstruction.{turn, sideTurn};
+ghost use Rattle.geometry.specs.Overlap.{overlaps};
 ghost use Rattle.geometry.specs.Convexity.{sideTest, convex};
 ghost use Rattle.lists.specs.Lists.{allBelow};
+ghost use Rattle.geometry.specs.inner.Overlapping.{FirstOverlapping};
 ghost use Rattle.geometry.specs.inner.Sides.{Within, Small, Narrowed, Meets};
 ghost use Rattle.lists.specs.inner.Tells.{Tells};
 ghost use Rattle.geometry.specs.inner.Search.{Lowest};
+use coordinates::any_past;
 
 // A place: east, then north.
 pub struct Place {
@@ -176,6 +179,51 @@ pub fn either(x: i64, y: i64) -> bool
     0 < y
 }
 
+fn lesser(a: u16, b: u16) -> u16
+    ensures { λ r. ⌜ r ≡ min a b ⌝ }
+{
+    if a < b { a } else { b }
+}
+
+fn greater(a: u16, b: u16) -> u16
+    ensures { λ r. ⌜ r ≡ max a b ⌝ }
+{
+    if a < b { b } else { a }
+}
+
+// Whether the enclosing rectangles of a block record and of the segment from a to b overlap. A block that lies far off
+// is left at the first of the four conditions that no corner meets.
+pub fn overlaps(words: &[u16], a: Place, b: Place) -> bool
+    requires { ⌜ BoundedRecord (now words) ⌝ }
+    ensures { λ t. ⌜ Tells (overlaps (corners (now (words .entry))) (pointOf a) (pointOf b)) t ⌝ }
+{
+    if !any_past(words, 1, true, lesser(a.east, b.east)) {
+        return false;
+    }
+    if !any_past(words, 1, false, greater(a.east, b.east)) {
+        return false;
+    }
+    if !any_past(words, 2, true, lesser(a.north, b.north)) {
+        return false;
+    }
+    any_past(words, 2, false, greater(a.north, b.north))
+}
+
+// The first block from `from` on that overlaps the segment from a to b; `to` or a higher number where none before `to` does.
+fn first_overlapping(blocks: &[u16], from: usize, to: usize, a: Place, b: Place) -> usize
+    requires { ⌜ (Bounded (now blocks)) × (to ≤ 24) ⌝ }
+    ensures { λ n. ⌜ FirstOverlapping (now (blocks .entry)) from to (pointOf a) (pointOf b) n ⌝ }
+{
+    let mut n = from;
+    while n < to {
+        if overlaps(&blocks[17 * n..17 * n + 17], a, b) {
+            return n;
+        }
+        n += 1;
+    }
+    n
+}
+
 // The lowest block of the numbers from..to that hides the segment from a to b.
 pub fn lowest_hider(blocks: &[u16], from: usize, to: usize, a: Place, b: Place) -> Hider
     requires blocks { ⌜ Bounded (now blocks) ⌝ }
@@ -183,7 +231,7 @@ pub fn lowest_hider(blocks: &[u16], from: usize, to: usize, a: Place, b: Place) 
     requires ends { ⌜ (InRange (pointOf a)) × (InRange (pointOf b)) ⌝ }
     ensures { λ r. ⌜ Lowest (now (blocks .entry)) from to (pointOf a) (pointOf b) r ⌝ }
 {
-    let mut n = from;
+    let mut n = first_overlapping(blocks, from, to, a, b);
     'blocks: loop {
         if to <= n {
             return Hider::Nothing;
@@ -211,7 +259,7 @@ pub fn lowest_hider(blocks: &[u16], from: usize, to: usize, a: Place, b: Place) 
                 }
             }
         }
-        n += 1;
+        n = first_overlapping(blocks, n + 1, to, a, b);
     }
     Hider::At(n)
 }

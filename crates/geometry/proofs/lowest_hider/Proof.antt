@@ -9,7 +9,7 @@ use Rattle.geometry.specs.Obstruction.{Hidden}
 use Rattle.geometry.proofs.Bound.{read}
 use Rattle.geometry.proofs.Sides.{meets-enters, enters-meets}
 use Rattle.geometry.proofs.Narrowing.{neither}
-use Rattle.geometry.proofs.Searching.{part-is, Passed, passed-none, passed-next, passed-shut, passed-all, span-whole, hidden-by, none-more}
+use Rattle.geometry.proofs.Searching.{part-is, Passed, passed-none, passed-next, passed-shut, passed-all, span-whole, hidden-by, none-more, none-between, none-passed}
 use Rattle.geometry.proofs.lowest_hider.Statement.{statement}
 use Rattle.geometry.proofs.lowest_hider.Tie as tie
 
@@ -27,7 +27,7 @@ abbrev μ-blocks2 : tie.MeasureT-blocks2
 μ-blocks2 blocks from to a b n₀ n = to - n
 
 blocks2-holds : tie.Need-blocks2-holds Inv-loop μ-loop Inv-blocks2 μ-blocks2
-blocks2-holds c = (omega arith, λ k lo hi h. omega arith)
+blocks2-holds c = (c .first-overlapping .ensures .after, none-passed (c .first-overlapping .ensures))
 
 returns : tie.Need-returns Inv-loop μ-loop Inv-blocks2 μ-blocks2
 returns c = λ k lo hi. c .before .blocks2 .inv .1 k lo (omega arith)
@@ -38,7 +38,7 @@ cast-count c = omega (arith, c .shared-slice-known2 .given 0)
 loop-holds : tie.Need-loop-holds Inv-loop μ-loop Inv-blocks2 μ-blocks2
 loop-holds c =
     let e = c .before .before in
-    let s = e .before .before .before in
+    let s = e .before .before .before .before in
     passed-none _ _ _ _ (s .pre .0) (omega arith) (part-is (s .args .blocks .now) (e .before .blocks2 .n))
 
 either-requires : tie.Need-either-requires Inv-loop μ-loop Inv-blocks2 μ-blocks2
@@ -80,12 +80,14 @@ loop-again-2 c =
 
 blocks2-again : tie.Need-blocks2-again Inv-loop μ-loop Inv-blocks2 μ-blocks2
 blocks2-again c =
-    let o = c .before .before .before .before .before in (
-      omega arith,
-      none-more _ _ _ (o .blocks2 .inv .1)
-          (⊎-elim (λ w. passed-all _ _ _ _ (c .before .loop .inv) (w .left))
-          (λ w. passed-shut _ _ _ _ (c .before .loop .inv) (w .0 .taken) (sym (read (w .1 .ok) (w .1 .ensures .0))) (sym (read (w .2 .ok) (w .2 .ensures .0))) (neither _ _ (denied (w .3 .ensures) (w .4 .taken))))
-          (c .loop-test .came)),
+    let l = c .before in
+    let o = l .before .before .before .before .before in (
+      omega (arith, o .blocks2 .inv .0, c .first-overlapping2 .ensures .after),
+      none-between _ _ _ _ (none-more _ _ _ (o .blocks2 .inv .1)
+          (⊎-elim (λ w. passed-all _ _ _ _ (l .before .loop .inv) (w .left))
+          (λ w. passed-shut _ _ _ _ (l .before .loop .inv) (w .0 .taken) (sym (read (w .1 .ok) (w .1 .ensures .0))) (sym (read (w .2 .ok) (w .2 .ensures .0))) (neither _ _ (denied (w .3 .ensures) (w .4 .taken))))
+          (l .loop-test .came)))
+          (none-passed (c .first-overlapping2 .ensures)),
     )
 
 returns-2 : tie.Need-returns-2 Inv-loop μ-loop Inv-blocks2 μ-blocks2
@@ -110,6 +112,7 @@ lowest-hider-spec =
     μ-loop
     Inv-blocks2
     μ-blocks2
+    (λ c κs. search needs)
     blocks2-holds
     returns
     (λ c. search needs)
@@ -133,6 +136,7 @@ lowest-hider-spec =
     (λ c. search needs)
     loop-again-2
     (λ c. search needs)
+    (λ c κs. search needs)
     (λ c. search needs)
     blocks2-again
     returns-2)
