@@ -9,6 +9,7 @@ mod plain_planner;
 mod random;
 #[cfg(not(plain))]
 mod reading;
+mod rectangles;
 mod reference;
 mod tables;
 mod trials;
@@ -458,6 +459,8 @@ fn main() {
     report.end_group("shortcuts");
     own_parts(&mut report);
     report.end_group("the second planner's parts");
+    rectangles::edges(&p, &mut report);
+    report.end_group("edges of rectangles");
     random_lists(&p, &mut report, &STYLES, 9, 300);
     report.end_group("random lists of edits");
     random_lists(&p, &mut report, &FULL, 4, 200);
