@@ -293,6 +293,18 @@ fn main() {
             let g = Grid { runs: runs.parse().expect("a count of runs"), ..*g };
             drag(p, &g, &mut g.tables(), &displacements(steps.parse().expect("a count of steps")));
         }
+        // for callgrind: one check of a yard
+        ["check", grid] => {
+            let t = YARDS.iter().find(|g| g.word == grid).expect("a grid's word").tables();
+            // The four tables are apart, live for the call, and as long as stated.
+            let answer = unsafe {
+                abi::yard_check(
+                    t.blocks.as_ptr(), BLOCKS, t.runs.as_ptr(), RUNS, t.pairs.as_ptr(), PAIRS,
+                    t.routes.as_ptr(), ROUTES,
+                )
+            };
+            assert_eq!(answer, 0);
+        }
         // for callgrind: all routes of the drag yard where every pair's byte says clear, by a move of a run to its own ends
         ["clear", steps] => {
             let mut t = FULL.tables();

@@ -38,13 +38,23 @@ fn convex(block: &[u16]) -> bool {
     true
 }
 
+/// Whether a coordinate of some corner, word i of the first, meets a condition.
+fn any(block: &[u16], i: usize, meets: impl Fn(u16) -> bool) -> bool {
+    (0..block[0] as usize).any(|k| meets(block[2 * k + i]))
+}
+
+/// Whether the enclosing rectangles of a block and of the straight from a to b overlap.
+fn overlaps(block: &[u16], a: Place, b: Place) -> bool {
+    any(block, 1, |e| e > a.0.min(b.0)) && any(block, 1, |e| e < a.0.max(b.0)) && any(block, 2, |n| n > a.1.min(b.1)) && any(block, 2, |n| n < a.1.max(b.1))
+}
+
 /// Whether a block hides the straight from a to b. The part of the straight inside the block starts at the
 /// tightest side that a is not left of, and finishes at the tightest side that b is not left of.
 fn hides(block: &[u16], a: Place, b: Place) -> bool {
-    let count = block[0] as usize;
-    if count == 0 {
+    if !overlaps(block, a, b) {
         return false;
     }
+    let count = block[0] as usize;
     let mut enter = (1i64, 1i64);
     let mut leave = (1i64, 1i64);
     let mut p = corner(block, count - 1);
