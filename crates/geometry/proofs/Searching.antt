@@ -133,3 +133,14 @@ none-passed {blocks} {a} {b} f k lo hi h = f .passed k lo hi (hidden-overlaps bl
 
 pub none-between : (P : ℕ → Type 0) (from l n : ℕ) → ((k : ℕ) → from ≤ k → k < l → P k → ⊥) → ((k : ℕ) → l ≤ k → k < n → P k → ⊥) → (k : ℕ) → from ≤ k → k < n → P k → ⊥
 none-between P from l n f g k lo hi h = elim (decLt k l) [ yes r ↦ f k lo r h | no r ↦ g k (omega arith) hi h ]
+
+-- the promise determines the block
+first-below : {blocks : List ℕ} {from to : ℕ} {a b : Point} {n m : ℕ} → FirstOverlapping blocks from to a b n → FirstOverlapping blocks from to a b m → n < m → ⊥
+first-below {n} f g l = g .passed n (f .after) l (f .found (omega (arith, f .after, g .within)))
+
+pub first-unique : {blocks : List ℕ} {from to : ℕ} {a b : Point} {n m : ℕ} → FirstOverlapping blocks from to a b n → FirstOverlapping blocks from to a b m → n ≡ m
+first-unique {n} {m} f g =
+    elim (decLt n m) [
+      | yes l ↦ absurd (first-below f g l)
+      | no l ↦ elim (decLt m n) [ yes r ↦ absurd (first-below g f r) | no r ↦ omega arith ]
+    ]

@@ -209,7 +209,8 @@ pub fn overlaps(words: &[u16], a: Place, b: Place) -> bool
     any_past(words, 2, false, greater(a.north, b.north))
 }
 
-// The first block from `from` on that overlaps the segment from a to b; `to` or a higher number where none before `to` does.
+// The first block from `from` on that overlaps the segment from a to b; where none before `to` does, `to`, or `from` if
+// that is higher.
 fn first_overlapping(blocks: &[u16], from: usize, to: usize, a: Place, b: Place) -> usize
     requires { ⌜ (Bounded (now blocks)) × (to ≤ 24) ⌝ }
     ensures { λ n. ⌜ FirstOverlapping (now (blocks .entry)) from to (pointOf a) (pointOf b) n ⌝ }

@@ -15,6 +15,7 @@ unfoldable pub Past : Bool → ℕ → ℕ → Type 0
 Past true c w = c < w
 Past false c w = w < c
 
+-- word x is past c
 abbrev pub WordPast : List ℕ → Bool → ℕ → ℕ → Type 0
 WordPast ws above c x = Past above c (getD ws x 0)
 
