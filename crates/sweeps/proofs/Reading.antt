@@ -1,0 +1,60 @@
+-- What the small functions of the search read off their lists.
+use mathlib.Core.Path.{_≡_, refl, sym, ap, _∙_}
+use mathlib.Core.Logic.{inl, inr}
+use mathlib.Core.List.{List}
+use Prim.Native.Nat.{ℕ, _+_, _*_, _-_, _≤_, _<_, min}
+use native.Mathlib.Omega.{arith}
+use lib.Dec.{eqb}
+use lib.ListN.{length, set, replicate, length-replicate}
+use borrow.Author.Tests.{eq-eqb, ne-eqb}
+use Rattle.geometry.specs.Words.{word}
+use Rattle.lists.specs.inner.Filled.{filled}
+use Rattle.crossings.specs.inner.Charts.{axisBy}
+use Rattle.sweeps.specs.inner.Keys.{keyAt, Lanes, leave, through, onLine, Stored, Improved, Opened}
+
+module _ (d : ℕ) where
+  pub axis-south : d ≡ 1 → 0 ≡ axisBy d
+  unfolding axisBy
+  axis-south e = rw (eq-eqb d 1 e)
+
+  pub axis-north : (d ≡ 1 → ⊥) → d ≡ 2 → 0 ≡ axisBy d
+  unfolding axisBy
+  axis-north n e = rw (ne-eqb d 1 n, eq-eqb d 2 e)
+
+  pub axis-else : (d ≡ 1 → ⊥) → (d ≡ 2 → ⊥) → 1 ≡ axisBy d
+  unfolding axisBy
+  axis-else n m = rw (ne-eqb d 1 n, ne-eqb d 2 m)
+
+  module _ (line n k : ℕ) where
+    pub on-west : d ≡ 0 → 66 * k + line ≡ onLine d line n k
+    unfolding onLine
+    on-west e = rw (eq-eqb d 0 e)
+
+    pub on-south : (d ≡ 0 → ⊥) → d ≡ 1 → 66 * line + k ≡ onLine d line n k
+    unfolding onLine
+    on-south a e = rw (ne-eqb d 0 a, eq-eqb d 1 e)
+
+    pub on-north : (d ≡ 0 → ⊥) → (d ≡ 1 → ⊥) → d ≡ 2 → 66 * line + (n - 1 - k) ≡ onLine d line n k
+    unfolding onLine
+    on-north a b e = rw (ne-eqb d 0 a, ne-eqb d 1 b, eq-eqb d 2 e)
+
+    pub on-east : (d ≡ 0 → ⊥) → (d ≡ 1 → ⊥) → (d ≡ 2 → ⊥) → 66 * (n - 1 - k) + line ≡ onLine d line n k
+    unfolding onLine
+    on-east a b e = rw (ne-eqb d 0 a, ne-eqb d 1 b, ne-eqb d 2 e)
+
+pub key-read : (top low : List ℕ) (v a b c : ℕ) → a ≡ word top v → b ≡ word low (2 * v + 1) → c ≡ word low (2 * v) → 4294967296 * a + 65536 * b + c ≡ keyAt top low v
+unfolding keyAt
+key-read top low v a b c p q r = omega arith
+
+module _ (top low : List ℕ) (v key old : ℕ) (e : old ≡ keyAt top low v) where
+  pub improved-kept : old ≤ key → Improved top low v key top low 0
+  improved-kept l = record { small = omega arith; came = inl (refl, omega arith, refl, refl) }
+
+  pub improved-less : (top′ low′ : List ℕ) → key < old → Stored top low v key top′ low′ → Improved top low v key top′ low′ 1
+  improved-less top′ low′ l s = record { small = omega arith; came = inr (refl, omega arith, s) }
+
+pub carry-is : (F : Lanes) (K : ℕ → ℕ) (end d v c b x y r : ℕ) → b ≡ axisBy d → x ≡ leave end K b v → y ≡ through F d v c → r ≡ min x y → r ≡ min (leave end K (axisBy d) v) (through F d v c)
+carry-is F K end d v c b x y r p q s e = rw (sym p, sym q, sym s) e
+
+pub opened : (end : ℕ) (a b top low : List ℕ) → length a ≡ 4356 → length b ≡ 8712 → top ≡ filled (length a) 65535 → low ≡ filled (length b) 0 → Opened end (set top end 0) low
+opened end a b top low la lb p q = record { top-is = ap (λ (l : List ℕ). set l end 0) (p ∙ ap (λ (n : ℕ). filled n 65535) la); low-is = q ∙ ap (λ (n : ℕ). filled n 0) lb }
