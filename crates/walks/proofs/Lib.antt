@@ -1,0 +1,5 @@
+pub mod Labelling
+pub mod Nexts
+pub mod Trails
+pub mod Ending
+pub mod Reading
