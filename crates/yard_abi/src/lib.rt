@@ -3,9 +3,10 @@ ghost use mathlib.Core.Path.{_≡_};
 ghost use mathlib.Core.List.{[], _∷_};
 ghost use lib.ListN.{length};
 ghost use Rattle.geometry.specs.Words.{point};
-ghost use Rattle.tables.specs.Tables.{tables};
+ghost use Rattle.tables.specs.Tables.{tables, stored};
 ghost use Rattle.book.specs.Book.{addBlock, removeBlock, moveBlock, addRun, removeRun, moveRun};
 ghost use Rattle.book.specs.Edits.{Started, Called, Checked};
+ghost use Rattle.ducts.specs.Quote.{DuctQuoted};
 ghost use Rattle.yard_abi.specs.Reading.{ReadInto};
 use geometry::Place;
 use yardfile::Reading;
@@ -183,4 +184,18 @@ pub extern "C" fn yard_read(file: &[u8], at: usize, item: &mut [u64]) -> u32
         }
         Reading::Refused(number) => number,
     }
+}
+
+#[no_mangle]
+pub extern "C" fn yard_quote_duct(
+    blocks: &[u16],
+    runs: &[u16],
+    run: u32,
+    quote: &mut [u32],
+    crossings: &mut [u16],
+) -> u32
+    ensures { λ r. ⌜ DuctQuoted (stored (now (blocks .entry)) (now (runs .entry))) run (now (quote .entry)) (now (crossings .entry))
+        r (now (quote .exit)) (now (crossings .exit)) ⌝ }
+{
+    ducts::quote_duct(blocks, runs, run, quote, crossings)
 }
