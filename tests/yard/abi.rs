@@ -1,4 +1,5 @@
-//! The calls of the static library `yard_abi`: blocks, runs, pairs, routes, each a pointer and a length, then the arguments.
+//! The calls of the static library `yard_abi`: blocks, runs, pairs, routes, each a pointer and a length, then the arguments;
+//! a quote is lent blocks and runs alone, and its own lists last.
 
 #[link(name = "yard_abi", kind = "static")]
 extern "C" {
@@ -31,6 +32,10 @@ extern "C" {
     ) -> u32;
     pub fn yard_check(
         b: *const u16, bl: usize, r: *const u16, rl: usize, p: *const u8, pl: usize, w: *const u32, wl: usize,
+    ) -> u32;
+    pub fn yard_quote_duct(
+        b: *const u16, bl: usize, r: *const u16, rl: usize, run: u32,
+        quote: *mut u32, quote_len: usize, crossings: *mut u16, crossings_len: usize,
     ) -> u32;
     pub fn yard_read(file: *const u8, file_len: usize, at: usize, item: *mut u64, item_len: usize) -> u32;
 }

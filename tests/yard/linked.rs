@@ -71,3 +71,18 @@ impl Planner for Linked {
         answer
     }
 }
+
+/// The duct of a run: the number, and the two lists as the call leaves them.
+pub fn quote_duct(blocks: &[u16], runs: &[u16], run: u32, quote: &mut [u32], crossings: &mut [u16]) -> u32 {
+    let (mut b, mut r) = (Fenced::new(blocks, 0x5A5A), Fenced::new(runs, 0x5A5A));
+    let (mut q, mut c) = (Fenced::new(quote, 0x5A5A_5A5A), Fenced::new(crossings, 0x5A5A));
+    // The four lists are apart, live for the call, and as long as stated.
+    let answer = unsafe { yard_quote_duct(b.ptr(), b.len, r.ptr(), r.len, run, q.ptr(), q.len, c.ptr(), c.len) };
+    let (mut blocks_after, mut runs_after) = (blocks.to_vec(), runs.to_vec());
+    b.take(&mut blocks_after, "blocks");
+    r.take(&mut runs_after, "runs");
+    assert!(blocks_after == blocks && runs_after == runs, "the quote changed a table");
+    q.take(quote, "the quote");
+    c.take(crossings, "the crossings");
+    answer
+}

@@ -2,6 +2,10 @@
 
 #[cfg(not(plain))]
 mod abi;
+mod duct_router;
+mod duct_yards;
+#[cfg(not(plain))]
+mod ducts;
 #[cfg(not(plain))]
 mod linked;
 #[cfg(plain)]
@@ -474,10 +478,14 @@ fn main() {
     report.end_group("wrong records");
     checks(&p, &mut report);
     report.end_group("check");
+    duct_yards::two_ways(&mut report);
+    report.end_group("the second duct router's parts");
     #[cfg(not(plain))]
     {
         reading::reading(&mut report);
         report.end_group("reading");
+        ducts::ducts(&mut report);
+        report.end_group("ducts");
     }
     println!("tests/yard: {} passed, {} failed", report.passed, report.failed);
     std::process::exit(if report.failed == 0 { 0 } else { 1 });

@@ -165,7 +165,7 @@ impl Book {
         }
     }
 
-    fn write_records(&self, t: &mut Tables) {
+    pub fn write_records(&self, t: &mut Tables) {
         t.blocks.fill(0);
         t.runs.fill(0);
         for (n, corners) in self.blocks.iter().enumerate() {

@@ -1,0 +1,405 @@
+//! Document 02, T-06: the duct quote against the second duct router, its number and every word of its two lists.
+
+use crate::duct_router::Lines;
+use crate::duct_yards::{seeded, shown, small_name, small_yard, turned, Kind, MAZE, SMALL, SMALL_KINDS, SMALL_YARDS};
+use crate::linked::quote_duct;
+use crate::random::Random;
+use crate::reference::{convex, stored_book, Book, Place};
+use crate::tables::{Tables, BLOCKS, RUNS};
+use crate::{same_answer, scramble, Report};
+use std::collections::HashSet;
+
+const QUOTE: usize = 3;
+const CROSSINGS: usize = 8712;
+
+/// What a call is lent, of any length and with any contents.
+#[derive(Clone)]
+struct Lent {
+    tables: Tables,
+    quote: Vec<u32>,
+    crossings: Vec<u16>,
+}
+
+impl Lent {
+    /// A book's records, and lists with words that an accepted call must overwrite.
+    fn new(r: &mut Random, book: &Book) -> Lent {
+        let mut tables = Tables { blocks: vec![0; BLOCKS], runs: vec![0; RUNS], pairs: vec![], routes: vec![] };
+        book.write_records(&mut tables);
+        let crossings = match r.below(8) {
+            0 => vec![0; CROSSINGS],
+            1 => vec![u16::MAX; CROSSINGS],
+            _ => (0..CROSSINGS).map(|_| r.next() as u16).collect(),
+        };
+        Lent { tables, quote: (0..QUOTE).map(|_| r.next() as u32).collect(), crossings }
+    }
+
+    fn lengths_right(&self) -> bool {
+        (self.tables.blocks.len(), self.tables.runs.len(), self.quote.len(), self.crossings.len()) == (BLOCKS, RUNS, QUOTE, CROSSINGS)
+    }
+
+    /// The number that is due and what the lists must hold after the call.
+    fn due(&self, run: u32) -> (u32, Vec<u32>, Vec<u16>) {
+        let refused = |number| (number, self.quote.clone(), self.crossings.clone());
+        if !self.lengths_right() {
+            return refused(1);
+        }
+        let Some(book) = stored_book(&self.tables) else { return refused(2) };
+        if run >= 24 {
+            return refused(3);
+        }
+        let ends = &book.runs[run as usize];
+        if ends.is_empty() {
+            return refused(5);
+        }
+        if book.blocks.iter().filter(|b| !b.is_empty()).count() > 8 {
+            return refused(12);
+        }
+        let mut crossings = vec![0; CROSSINGS];
+        let Some(path) = Lines::new(&book, ends).least() else { return (0, vec![2, 0, 0], crossings) };
+        for (words, c) in crossings.chunks_mut(2).zip(&path.crossings) {
+            words.copy_from_slice(&[c.0 as u16, c.1 as u16]);
+        }
+        (0, vec![1, path.cost as u32, path.crossings.len() as u32], crossings)
+    }
+
+    /// Make the call and compare. The number is given back.
+    fn call(&self, run: u32) -> Result<u32, String> {
+        let (mut quote, mut crossings) = (self.quote.clone(), self.crossings.clone());
+        let answer = quote_duct(&self.tables.blocks, &self.tables.runs, run, &mut quote, &mut crossings);
+        let (right, quote_due, crossings_due) = self.due(run);
+        same_answer("quote", answer, right)?;
+        if quote != quote_due {
+            return Err(format!("answer {right}, quote {quote:?}, should be {quote_due:?}"));
+        }
+        match (0..crossings.len()).find(|&k| crossings[k] != crossings_due[k]) {
+            None => Ok(right),
+            Some(at) => Err(format!("answer {right}, word {at} of the crossings {}, should be {}", crossings[at], crossings_due[at])),
+        }
+    }
+}
+
+/// The quote of a run, over a yard with fewer blocks if that goes wrong too.
+fn compared(r: &mut Random, book: &Book, run: usize) -> Result<(), String> {
+    let Err(why) = Lent::new(r, book).call(run as u32) else { return Ok(()) };
+    for n in (0..24).filter(|&n| !book.blocks[n].is_empty()) {
+        let mut fewer = book.clone();
+        fewer.blocks[n].clear();
+        compared(r, &fewer, run)?;
+    }
+    Err(format!("{why}: {}", shown(book, run)))
+}
+
+fn small_yards(report: &mut Report) {
+    for kind in 0..=SMALL_KINDS.len() {
+        report.case(&format!("duct, {}", small_name(kind)), |calls| {
+            for k in (kind..SMALL_YARDS).step_by(SMALL_KINDS.len() + 1) {
+                let (book, run) = small_yard(k);
+                compared(&mut seeded(k), &book, run).map_err(|why| format!("yard {k}: {why}"))?;
+                *calls += 1;
+            }
+            Ok(())
+        });
+    }
+}
+
+const KINDS: [Kind; 8] = [
+    Kind { name: "overlapping", span: 12, size: 8, least: 4, ..SMALL },
+    Kind { name: "steps of 25, larger", span: 12, size: 6, step: 25, least: 4, ..SMALL },
+    Kind { name: "steps of 5", span: 20, size: 9, step: 5, ..SMALL },
+    Kind { name: "larger maze", span: 12, ..MAZE },
+    Kind { name: "medium", span: 300, size: 120, ..SMALL },
+    Kind { name: "wide", span: 2000, size: 700, step: 16, ..SMALL },
+    Kind { name: "large", span: 32767, size: 9000, ..SMALL },
+    Kind { name: "huge blocks", span: 32767, size: 32767, least: 2, ..SMALL },
+];
+
+fn larger_yards(report: &mut Report) {
+    for (at, kind) in KINDS.iter().enumerate() {
+        report.case(&format!("duct, {}", kind.name), |calls| {
+            for k in 0..300 {
+                let mut r = seeded(100_000 + 1000 * at + k);
+                let (book, run) = kind.yard(&mut r);
+                compared(&mut r, &book, run).map_err(|why| format!("yard {k}: {why}"))?;
+                *calls += 1;
+            }
+            Ok(())
+        });
+    }
+}
+
+/// A block of eight corners near a circle, mostly with eight different coordinates each way.
+fn octagon(r: &mut Random, centre: Place, radius: i64) -> Vec<Place> {
+    loop {
+        let corner = |k: i64| {
+            let turn = (45 * k + r.between(-18, 18)) as f64 / 180.0 * std::f64::consts::PI;
+            (centre.0 + (radius as f64 * turn.cos()) as i64, centre.1 + (radius as f64 * turn.sin()) as i64)
+        };
+        let corners: Vec<Place> = (0..8).map(corner).collect();
+        if convex(&corners) {
+            return corners;
+        }
+    }
+}
+
+/// Whether no two corners or ends of a yard lie on one line.
+fn all_different(book: &Book, of: fn(&Place) -> i64) -> bool {
+    let mut seen = HashSet::new();
+    book.blocks.iter().chain(&book.runs).flatten().all(|p| seen.insert(of(p)))
+}
+
+/// Eight octagons, apart or overlapping, and a run across them: up to 66 lines each way.
+fn octagons(report: &mut Report) {
+    let mut full = 0;
+    for k in 0..40 {
+        report.case(&format!("eight octagons, yard {k}"), |calls| {
+            let mut r = seeded(200_000 + k);
+            let radius = r.pick(&[300, 1200, 2500, 5000]);
+            let side = r.pick(&[4 * radius + 200, 32767]).min(32767);
+            let mut book = Book::new();
+            for n in 0..8 {
+                let centre = (r.between(radius, side - radius), r.between(radius, side - radius));
+                book.blocks[3 * n] = octagon(&mut r, centre, radius);
+            }
+            let end = |r: &mut Random, low: i64| (r.between(low, low + side / 8), r.between(0, side));
+            book.runs[5] = vec![end(&mut r, 0), end(&mut r, side - side / 8)];
+            full += (all_different(&book, |p| p.0) && all_different(&book, |p| p.1)) as usize;
+            *calls += 1;
+            compared(&mut r, &turned(&book, k, side), 5)
+        });
+    }
+    report.case("66 lines each way often enough", |_| if full >= 8 { Ok(()) } else { Err(format!("only {full} of 40")) });
+}
+
+/// A wall round the straight from a to b, so thick on each side and past each end, with its corners cut off.
+fn wall(r: &mut Random, a: Place, b: Place, thick: i64) -> Vec<Place> {
+    let (w, e, s, n) = (a.0.min(b.0) - thick, a.0.max(b.0) + thick, a.1.min(b.1) - thick, a.1.max(b.1) + thick);
+    let mut cut = || r.between(1, thick - 1);
+    vec![
+        (w + cut(), s), (e - cut(), s), (e, s + cut()), (e, n - cut()),
+        (e - cut(), n), (w + cut(), n), (w, n - cut()), (w, s + cut()),
+    ]
+}
+
+/// Walls along lines of places, and a run.
+fn walled(r: &mut Random, lines: &[&[Place]], thick: i64, ends: [Place; 2]) -> Book {
+    let mut book = Book::new();
+    let walls: Vec<Vec<Place>> = lines.iter().flat_map(|line| line.windows(2)).map(|w| wall(r, w[0], w[1], thick)).collect();
+    assert!(walls.len() <= 8 && walls.iter().all(|w| convex(w)));
+    book.blocks[..walls.len()].clone_from_slice(&walls);
+    book.runs[0] = ends.to_vec();
+    book
+}
+
+/// Out of the middle of a spiral of eight walls, so far from each other.
+fn spiral(r: &mut Random, gap: i64) -> Book {
+    let c = 3 * gap;
+    let line: Vec<Place> = [(0, 0), (1, 0), (1, 1), (-1, 1), (-1, -1), (2, -1), (2, 2), (-2, 2), (-2, -2)].map(|p| (c + gap * p.0, c + gap * p.1)).to_vec();
+    walled(r, &[&line], gap / 8, [(c - gap / 2, c + gap / 2), (c + 5 * gap / 2, c + gap / 3)])
+}
+
+/// Up a shaft that five walls from either side bar in turn.
+fn shaft(r: &mut Random, gap: i64) -> Book {
+    let (w, e) = (gap, 5 * gap);
+    let bar = |k: i64| if k % 2 == 0 { [(w, k * gap), (e - gap, k * gap)] } else { [(w + gap, k * gap), (e, k * gap)] };
+    let bars = [2, 3, 4, 5, 6].map(bar);
+    let round = [(w, 7 * gap), (w, gap), (e, gap), (e, 7 * gap)];
+    let lines: Vec<&[Place]> = [&round[..]].into_iter().chain(bars.iter().map(|b| &b[..])).collect();
+    walled(r, &lines, gap / 8, [(w + gap / 2, gap + gap / 2), (w + gap / 2, 6 * gap + gap / 2)])
+}
+
+fn mazes(report: &mut Report) {
+    let known: [(&str, fn(&mut Random, i64) -> Book, i64); 2] = [("spiral", spiral, 6), ("shaft", shaft, 10)];
+    for (name, yard, bends) in known {
+        for position in 0..8 {
+            report.case(&format!("{name}, position {position}"), |calls| {
+                let mut r = seeded(300_000 + position);
+                for gap in [40, 200, 5000] {
+                    let side = if gap == 5000 { 32767 } else { 8 * gap };
+                    let gap = if gap == 5000 { 32767 / 8 } else { gap };
+                    let mut book = turned(&yard(&mut r, gap), position, side);
+                    let least = Lines::new(&book, &book.runs[0]).least().ok_or("no way")?;
+                    if least.changes < bends {
+                        return Err(format!("only {} bends: {}", least.changes, shown(&book, 0)));
+                    }
+                    compared(&mut r, &book, 0)?;
+                    // the other way round, and without one of the walls
+                    book.runs[0].reverse();
+                    compared(&mut r, &book, 0)?;
+                    book.blocks[r.below(8)].clear();
+                    compared(&mut r, &book, 0)?;
+                    *calls += 3;
+                }
+                Ok(())
+            });
+        }
+    }
+}
+
+/// Quotes worked out by hand: blocks, ends, and cost and crossings if there is a way.
+fn known(report: &mut Report) {
+    type Row = (&'static str, Vec<Vec<Place>>, [Place; 2], Option<(u32, Vec<u16>)>);
+    let square = || vec![(10, 10), (20, 10), (20, 20), (10, 20)];
+    let beside = || vec![(20, 10), (30, 10), (30, 20), (20, 20)];
+    // over the first and under the second, or over both
+    let bars = |high: i64| vec![vec![(20, 0), (30, 0), (30, 110), (20, 110)], vec![(50, 90), (60, 90), (60, high), (50, high)]];
+    let rows: Vec<Row> = vec![
+        ("an empty yard", vec![], [(3, 4), (3, 9)], Some((5, vec![3, 4, 3, 9]))),
+        ("an empty yard, west of north first", vec![], [(3, 4), (1, 9)], Some((32, vec![3, 4, 1, 4, 1, 9]))),
+        ("an empty yard, north before east", vec![], [(3, 4), (5, 9)], Some((32, vec![3, 4, 3, 9, 5, 9]))),
+        ("S, from side to side", vec![square()], [(0, 15), (30, 15)], Some((90, vec![0, 15, 0, 10, 10, 10, 20, 10, 30, 10, 30, 15]))),
+        ("S, along its side", vec![square()], [(0, 10), (30, 10)], Some((30, vec![0, 10, 10, 10, 20, 10, 30, 10]))),
+        ("S, from corner to corner", vec![square()], [(10, 10), (20, 20)], Some((45, vec![10, 10, 10, 20, 20, 20]))),
+        ("the seam", vec![square(), beside()], [(20, 0), (20, 30)], Some((30, vec![20, 0, 20, 10, 20, 20, 20, 30]))),
+        ("an end inside", vec![square()], [(0, 15), (15, 15)], None),
+        ("the other end inside", vec![square()], [(15, 15), (0, 15)], None),
+        ("one place outside", vec![square()], [(0, 15), (0, 15)], Some((0, vec![0, 15]))),
+        ("one place on a side", vec![square()], [(10, 15), (10, 15)], Some((0, vec![10, 15]))),
+        ("one place at a corner", vec![square()], [(20, 20), (20, 20)], Some((0, vec![20, 20]))),
+        ("one place inside", vec![square()], [(15, 15), (15, 15)], None),
+        ("one place inside on the seam of two", vec![square(), beside()], [(20, 15), (20, 15)], Some((0, vec![20, 15]))),
+        ("0 and 32,767", vec![], [(0, 0), (32767, 32767)], Some((65559, vec![0, 0, 0, 32767, 32767, 32767]))),
+        // 80 + 10 + 20 + 15 and four bends, or 80 + 2 x 50 - 5 and two
+        ("as much with fewer bends", bars(150), [(0, 100), (80, 105)], Some((225, vec![0, 100, 0, 105, 0, 110, 0, 150, 20, 150, 30, 150, 50, 150, 60, 150, 80, 150, 80, 110, 80, 105]))),
+        ("a centimetre too high", bars(151), [(0, 100), (80, 105)], Some((225, vec![0, 100, 0, 105, 0, 110, 20, 110, 30, 110, 30, 105, 30, 100, 30, 90, 50, 90, 60, 90, 80, 90, 80, 100, 80, 105]))),
+    ];
+    for (name, blocks, ends, way) in rows {
+        report.case(&format!("duct, {name}"), |calls| {
+            let mut book = Book::new();
+            book.blocks[..blocks.len()].clone_from_slice(&blocks);
+            book.runs[7] = ends.to_vec();
+            let lent = Lent::new(&mut seeded(1), &book);
+            let (_, quote, crossings) = lent.due(7);
+            let (state, cost, list) = way.map_or((2, 0, vec![]), |(cost, list)| (1, cost, list));
+            let count = list.len() / 2;
+            if quote != [state, cost, count as u32] || crossings[..2 * count] != list {
+                return Err(format!("the second router says {quote:?} {:?}", &crossings[..2 * quote[2] as usize]));
+            }
+            *calls += 1;
+            lent.call(7).map(drop)
+        });
+    }
+}
+
+const NUMBERS: [u32; 9] = [24, 25, 31, 48, 255, 65535, 65536, 1 << 31, u32::MAX];
+
+/// A yard of so many blocks and, of the runs, just the one with this number.
+fn yard_of(r: &mut Random, blocks: usize, run: usize) -> Book {
+    let mut book = Book::new();
+    while book.blocks.iter().filter(|b| !b.is_empty()).count() < blocks {
+        book.blocks[r.below(24)] = SMALL.block(r);
+    }
+    book.runs[run] = vec![(r.between(0, 5), r.between(0, 5)), (r.between(0, 5), r.between(0, 5))];
+    book
+}
+
+/// A call that must be answered so.
+fn answered(lent: &Lent, run: u32, number: u32, calls: &mut usize) -> Result<(), String> {
+    *calls += 1;
+    lent.call(run).and_then(|answer| same_answer("the case", answer, number))
+}
+
+fn refusals(report: &mut Report) {
+    report.case("numbers that are not below 24", |calls| {
+        for (k, blocks) in [0, 1, 8, 9, 24].into_iter().enumerate() {
+            let mut r = seeded(400_000 + k);
+            let book = yard_of(&mut r, blocks, 0);
+            let lent = Lent::new(&mut r, &book);
+            NUMBERS.iter().try_for_each(|&run| answered(&lent, run, 3, calls))?;
+        }
+        Ok(())
+    });
+    report.case("absent runs", |calls| {
+        for k in 0..24usize {
+            let mut r = seeded(410_000 + k);
+            // 5 comes before 12
+            let book = yard_of(&mut r, k, k);
+            let lent = Lent::new(&mut r, &book);
+            (0..24).filter(|&run| run != k as u32).try_for_each(|run| answered(&lent, run, 5, calls))?;
+        }
+        Ok(())
+    });
+    report.case("more than 8 blocks", |calls| {
+        for blocks in 0..=24 {
+            for k in 0..8 {
+                let mut r = seeded(420_000 + 100 * blocks + k);
+                let run = r.below(24);
+                let book = yard_of(&mut r, blocks, run);
+                answered(&Lent::new(&mut r, &book), run as u32, if blocks > 8 { 12 } else { 0 }, calls)?;
+            }
+        }
+        Ok(())
+    });
+    wrong_lengths(report);
+    wrong_records(report);
+}
+
+/// Every length wrong alone and together with others, over yards that other questions fail for too.
+fn wrong_lengths(report: &mut Report) {
+    for list in 0..4 {
+        report.case(&format!("duct, list {list} of another length"), |calls| {
+            for k in 0..60 {
+                let mut r = seeded(430_000 + 100 * list + k);
+                let blocks = r.below(12);
+                let book = yard_of(&mut r, blocks, 3);
+                let mut lent = Lent::new(&mut r, &book);
+                if r.percent(40) {
+                    scramble(&mut r, &mut lent.tables);
+                }
+                let also = r.below(8);
+                for list in [list, also] {
+                    let other = |right: usize| [0, right - 1, right + 1, 1, right / 2, 2 * right][k % 6];
+                    match list {
+                        0 => lent.tables.blocks.resize(other(BLOCKS), 0),
+                        1 => lent.tables.runs.resize(other(RUNS), 0),
+                        2 => lent.quote.resize(other(QUOTE), 77),
+                        3 => lent.crossings.resize(other(CROSSINGS), 77),
+                        _ => {}
+                    }
+                }
+                answered(&lent, r.pick(&[3, 3, 4, 24, u32::MAX]), 1, calls)?;
+            }
+            Ok(())
+        });
+    }
+    report.case("duct, lengths of blocks and runs exchanged", |calls| {
+        let mut r = seeded(440_000);
+        let book = yard_of(&mut r, 2, 3);
+        let mut lent = Lent::new(&mut r, &book);
+        std::mem::swap(&mut lent.tables.blocks, &mut lent.tables.runs);
+        answered(&lent, 3, 1, calls)
+    });
+}
+
+/// Records with some words changed, for any run.
+fn wrong_records(report: &mut Report) {
+    let mut numbers = [0; 13];
+    for seed in 0..30 {
+        report.case(&format!("duct over changed records, seed {seed}"), |calls| {
+            for k in 0..100 {
+                let mut r = seeded(500_000 + 1000 * seed + k);
+                let (blocks, run) = (r.below(14), r.below(24));
+                let book = yard_of(&mut r, blocks, run);
+                let mut lent = Lent::new(&mut r, &book);
+                scramble(&mut r, &mut lent.tables);
+                let asked = if r.percent(70) { run as u32 } else { r.pick(&[0, 23, 24, u32::MAX]) };
+                let words = format!("run {asked} over blocks {:?} runs {:?}", lent.tables.blocks, lent.tables.runs);
+                numbers[lent.call(asked).map_err(|why| format!("{why}: {words}"))? as usize] += 1;
+                *calls += 1;
+            }
+            Ok(())
+        });
+    }
+    report.case("every number often enough", |_| {
+        let few = [0, 2, 3, 5, 12].iter().any(|&n| numbers[n] < 20) || numbers[2] < 400;
+        if few { Err(format!("{numbers:?}")) } else { Ok(()) }
+    });
+}
+
+pub fn ducts(report: &mut Report) {
+    known(report);
+    small_yards(report);
+    larger_yards(report);
+    octagons(report);
+    mazes(report);
+    refusals(report);
+}
