@@ -2,7 +2,8 @@
 
 use crate::labels::{self, Line, Page};
 use crate::plane::{Box, Point};
-use crate::{Place, Yard};
+use crate::yards::Place;
+use crate::Yard;
 use std::fmt::Write;
 
 const ROUTE: &str = "#1f5fa8";
@@ -11,7 +12,7 @@ const BLOCK_FILL: &str = "#e9ecef";
 const BLOCK_EDGE: &str = "#5f6b76";
 const INK: &str = "#22272b";
 const FAINT: &str = "#6b747c";
-const SMALL: f64 = 2.6;
+pub const SMALL: f64 = 2.6;
 
 /// Two decimals, without zeros at the end.
 fn figure(v: f64) -> String {
@@ -21,7 +22,7 @@ fn figure(v: f64) -> String {
 }
 
 /// The width of a text in a broad sans-serif font (DejaVu Sans).
-fn width(text: &str, size: f64) -> f64 {
+pub fn width(text: &str, size: f64) -> f64 {
     let of = |c: char| match c {
         ' ' | '.' | ':' => 0.32,
         'r' => 0.41,
@@ -56,10 +57,10 @@ fn metres(cm: u32) -> String {
 }
 
 /// Centimetres on the ground to millimetres on the page.
-struct Frame {
-    wide: f64,
-    tall: f64,
-    area: Box,
+pub struct Frame {
+    pub wide: f64,
+    pub tall: f64,
+    pub area: Box,
     /// One to how much, in thousandths.
     scale: u64,
     west: f64,
@@ -67,12 +68,12 @@ struct Frame {
     origin: Point,
 }
 
-const MARGIN: f64 = 15.0;
+pub const MARGIN: f64 = 15.0;
 const HEADER: f64 = 18.0;
 const FOOTER: f64 = 16.0;
 
 impl Frame {
-    fn new(yard: &Yard) -> Frame {
+    pub fn new(yard: &Yard) -> Frame {
         let places: Vec<Place> = yard.blocks.iter().flat_map(|b| &b.1).chain(yard.runs.iter().flat_map(|r| &r.places)).copied().collect();
         // at least 6 cm, with the places in the middle
         let range = |of: fn(&Place) -> u16| {
@@ -106,7 +107,7 @@ impl Frame {
         10_000.0 / self.scale as f64
     }
 
-    fn point(&self, p: Place) -> Point {
+    pub fn point(&self, p: Place) -> Point {
         (self.origin.0 + (p.0 as f64 - self.west) * self.by(), self.origin.1 - (p.1 as f64 - self.south) * self.by())
     }
 
@@ -119,26 +120,26 @@ impl Frame {
     }
 }
 
-struct Svg(String);
+pub struct Svg(pub String);
 
 impl Svg {
-    fn line(&mut self, text: std::fmt::Arguments) {
+    pub fn line(&mut self, text: std::fmt::Arguments) {
         self.0.write_fmt(text).unwrap();
         self.0.push('\n');
     }
 
-    fn text(&mut self, at: Point, class: &str, anchor: &str, text: &str) {
+    pub fn text(&mut self, at: Point, class: &str, anchor: &str, text: &str) {
         let anchor = if anchor == "start" { String::new() } else { format!(" text-anchor=\"{anchor}\"") };
         self.line(format_args!("<text class=\"{class}\" x=\"{}\" y=\"{}\"{anchor}>{}</text>", figure(at.0), figure(at.1), escaped(text)));
     }
 
-    fn path(&mut self, class: &str, points: &[Point], closed: bool) {
+    pub fn path(&mut self, class: &str, points: &[Point], closed: bool) {
         let list: Vec<String> = points.iter().map(|p| format!("{},{}", figure(p.0), figure(p.1))).collect();
         let tag = if closed { "polygon" } else { "polyline" };
         self.line(format_args!("<{tag} class=\"{class}\" points=\"{}\"/>", list.join(" ")));
     }
 
-    fn circle(&mut self, class: &str, at: Point) {
+    pub fn circle(&mut self, class: &str, at: Point) {
         self.line(format_args!("<circle class=\"{class}\" cx=\"{}\" cy=\"{}\" r=\"0.8\"/>", figure(at.0), figure(at.1)));
     }
 }
@@ -151,7 +152,19 @@ fn counted(count: usize, word: &str) -> String {
     }
 }
 
-fn head(svg: &mut Svg, frame: &Frame, name: &str, yard: &Yard) {
+/// A line under the title, in red if something is amiss.
+pub struct Note {
+    pub text: String,
+    pub amiss: bool,
+}
+
+fn stop_note(yard: &Yard) -> Option<Note> {
+    let stop = yard.stop?;
+    let why = if stop.number == 9 { "not a yard file of version 1" } else { "no whole record here; the edits before it stand" };
+    Some(Note { text: format!("stop {} at {}: {why}", stop.number, stop.at), amiss: true })
+}
+
+pub fn head(svg: &mut Svg, frame: &Frame, name: &str, yard: &Yard, note: Option<Note>) {
     svg.text((MARGIN, MARGIN + 5.0), "title", "start", name);
     let lost = yard.runs.iter().filter(|r| r.length.is_none()).count();
     let mut line = format!("{}, {}", counted(yard.blocks.len(), "block"), counted(yard.runs.len(), "run"));
@@ -163,17 +176,16 @@ fn head(svg: &mut Svg, frame: &Frame, name: &str, yard: &Yard) {
         write!(line, ", {} refused", yard.refused).unwrap();
     }
     svg.text((MARGIN, MARGIN + 10.0), "note", "start", &line);
-    if let Some(stop) = yard.stop {
-        let why = if stop.number == 9 { "not a yard file of version 1" } else { "no whole record here; the edits before it stand" };
-        svg.text((MARGIN, MARGIN + 14.0), "note lost", "start", &format!("stop {} at {}: {why}", stop.number, stop.at));
+    for (k, note) in note.into_iter().chain(stop_note(yard)).enumerate() {
+        svg.text((MARGIN, MARGIN + 14.0 + 4.0 * k as f64), if note.amiss { "note lost" } else { "note" }, "start", &note.text);
     }
     let (right, top) = (frame.wide - MARGIN - 3.0, MARGIN);
     svg.path("north", &[(right, top), (right + 2.2, top + 8.0), (right, top + 6.2), (right - 2.2, top + 8.0)], true);
     svg.text((right, top + 11.5), "note", "middle", "N");
 }
 
-/// The scale bar, about a quarter of the page long, and the key of the signs.
-fn foot(svg: &mut Svg, frame: &Frame) {
+/// The scale bar, about a quarter of the page long.
+pub fn scale_bar(svg: &mut Svg, frame: &Frame) {
     let base = frame.tall - MARGIN - 3.0;
     let lengths = (0..5).flat_map(|p| [1u32, 2, 5].map(|m| m * 10u32.pow(p)));
     let cm = lengths.filter(|&l| l as f64 * frame.by() <= 55.0).last().unwrap_or(1);
@@ -184,24 +196,51 @@ fn foot(svg: &mut Svg, frame: &Frame) {
     svg.text((MARGIN, base - 2.2), "note", "start", "0");
     svg.text((MARGIN + long, base - 2.2), "note", "middle", &text);
     svg.text((MARGIN, base + 4.0), "note", "start", &format!("scale {} on A4", frame.scale_text()));
-
-    let left = frame.wide - MARGIN - 78.0;
-    let sign = |k: f64| base - 4.2 + 4.1 * k;
-    svg.path("block", &[(left, sign(0.0) + 1.2), (left + 8.0, sign(0.0) + 1.2), (left + 8.0, sign(0.0) - 1.2), (left, sign(0.0) - 1.2)], true);
-    svg.text((left + 10.5, sign(0.0) + 0.9), "note", "start", "block, with its number");
-    svg.path("route", &[(left, sign(1.0)), (left + 8.0, sign(1.0))], false);
-    svg.circle("end", (left, sign(1.0)));
-    svg.circle("end", (left + 8.0, sign(1.0)));
-    svg.text((left + 10.5, sign(1.0) + 0.9), "note", "start", "run: its shortest route and that route's length");
-    svg.path("route lost", &[(left, sign(2.0)), (left + 8.0, sign(2.0))], false);
-    svg.circle("end lost", (left, sign(2.0)));
-    svg.circle("end lost", (left + 8.0, sign(2.0)));
-    svg.text((left + 10.5, sign(2.0) + 0.9), "note", "start", "run with no way");
 }
 
-pub fn svg(name: &str, yard: &Yard) -> String {
-    let frame = Frame::new(yard);
-    let large = frame.scale >= 20_000;
+/// The key of the signs: where each row of it stands, the lowest row being number 2.
+pub struct Key {
+    pub left: f64,
+    base: f64,
+}
+
+impl Key {
+    pub fn new(frame: &Frame) -> Key {
+        Key { left: frame.wide - MARGIN - 78.0, base: frame.tall - MARGIN - 3.0 }
+    }
+
+    pub fn row(&self, k: f64) -> f64 {
+        self.base - 4.2 + 4.1 * k
+    }
+
+    /// The middle of the left and of the right of a row's sign.
+    pub fn sign(&self, k: f64) -> [Point; 2] {
+        [(self.left, self.row(k)), (self.left + 8.0, self.row(k))]
+    }
+
+    pub fn text(&self, svg: &mut Svg, k: f64, text: &str) {
+        svg.text((self.left + 10.5, self.row(k) + 0.9), "note", "start", text);
+    }
+
+    pub fn block(&self, svg: &mut Svg, k: f64) {
+        let (left, row) = (self.left, self.row(k));
+        svg.path("block", &[(left, row + 1.2), (left + 8.0, row + 1.2), (left + 8.0, row - 1.2), (left, row - 1.2)], true);
+        self.text(svg, k, "block, with its number");
+    }
+}
+
+fn key(svg: &mut Svg, frame: &Frame) {
+    let key = Key::new(frame);
+    key.block(svg, 0.0);
+    for (k, lost, text) in [(1.0, "", "run: its shortest route and that route's length"), (2.0, " lost", "run with no way")] {
+        svg.path(&format!("route{lost}"), &key.sign(k), false);
+        key.sign(k).iter().for_each(|&end| svg.circle(&format!("end{lost}"), end));
+        key.text(svg, k, text);
+    }
+}
+
+/// A page with its styles, to be drawn on and ended.
+pub fn sheet(frame: &Frame, name: &str, more: &[&str]) -> Svg {
     let mut svg = Svg(String::new());
     let (wide, tall) = (frame.wide, frame.tall);
     svg.line(format_args!("<svg xmlns=\"http://www.w3.org/2000/svg\" width=\"{wide}mm\" height=\"{tall}mm\" viewBox=\"0 0 {wide} {tall}\">"));
@@ -220,11 +259,46 @@ pub fn svg(name: &str, yard: &Yard) -> String {
     svg.line(format_args!(".label.lost, .note.lost {{ fill: {NO_WAY} }}"));
     svg.line(format_args!(".bar {{ fill: none; stroke: {INK}; stroke-width: 0.3 }}"));
     svg.line(format_args!(".north {{ fill: {FAINT} }}"));
+    more.iter().for_each(|rule| svg.line(format_args!("{rule}")));
     svg.line(format_args!("</style>"));
     svg.line(format_args!("<rect width=\"{wide}\" height=\"{tall}\" fill=\"#fff\"/>"));
-    head(&mut svg, &frame, name, yard);
+    svg
+}
 
-    let blocks: Vec<Vec<Point>> = yard.blocks.iter().map(|b| b.1.iter().map(|&c| frame.point(c)).collect()).collect();
+/// The outlines of the blocks on the page.
+pub fn outlines(frame: &Frame, yard: &Yard) -> Vec<Vec<Point>> {
+    yard.blocks.iter().map(|b| b.1.iter().map(|&c| frame.point(c)).collect()).collect()
+}
+
+/// Boxes for the numbers of the blocks, and for the texts of some lines, which are so much wider than a route's.
+pub fn placed(frame: &Frame, yard: &Yard, lines: &[Vec<Point>], texts: &[String], wider: f64) -> (Vec<Box>, Vec<Box>) {
+    let tall = 0.78 * SMALL;
+    let number = |b: &(usize, Vec<Place>), outline: Vec<Point>| (outline, width(&b.0.to_string(), SMALL), tall);
+    let (numbers, labels) = labels::place(&Page {
+        area: frame.area,
+        blocks: yard.blocks.iter().zip(outlines(frame, yard)).map(|(b, outline)| number(b, outline)).collect(),
+        lines: lines.iter().zip(texts).map(|(l, t)| Line { points: l.clone(), wide: width(t, SMALL) + wider, tall: tall + wider }).collect(),
+    });
+    (numbers, labels.iter().map(|b| b.grown(-wider / 2.0)).collect())
+}
+
+/// A text in its box.
+pub fn set(svg: &mut Svg, b: &Box, class: &str, text: &str) {
+    svg.text((b.centre().0, b.bottom - 0.02 * SMALL), class, "middle", text);
+}
+
+pub fn set_numbers(svg: &mut Svg, yard: &Yard, boxes: &[Box]) {
+    for ((n, _), b) in yard.blocks.iter().zip(boxes) {
+        set(svg, b, "number", &n.to_string());
+    }
+}
+
+pub fn svg(name: &str, yard: &Yard) -> String {
+    let frame = Frame::new(yard);
+    let large = frame.scale >= 20_000;
+    let mut svg = sheet(&frame, name, &[]);
+    head(&mut svg, &frame, name, yard, None);
+
     let lines: Vec<Vec<Point>> = yard.runs.iter().map(|r| r.places.iter().map(|&p| frame.point(p)).collect()).collect();
     let texts: Vec<String> = yard
         .runs
@@ -235,15 +309,9 @@ pub fn svg(name: &str, yard: &Yard) -> String {
             Some(cm) => format!("run {}: {cm} cm", r.number),
         })
         .collect();
-    let tall_text = 0.78 * SMALL;
-    let page = Page {
-        area: frame.area,
-        blocks: yard.blocks.iter().zip(&blocks).map(|(b, c)| (c.clone(), width(&b.0.to_string(), SMALL), tall_text)).collect(),
-        lines: lines.iter().zip(&texts).map(|(l, t)| Line { points: l.clone(), wide: width(t, SMALL), tall: tall_text }).collect(),
-    };
-    let (numbers, labels) = labels::place(&page);
+    let (numbers, labels) = placed(&frame, yard, &lines, &texts, 0.0);
 
-    blocks.iter().for_each(|b| svg.path("block", b, true));
+    outlines(&frame, yard).iter().for_each(|b| svg.path("block", b, true));
     let class = |of: &str, r: &crate::Run| if r.length.is_none() { format!("{of} lost") } else { of.to_string() };
     for (run, line) in yard.runs.iter().zip(&lines) {
         svg.path(&class("route", run), line, false);
@@ -252,14 +320,12 @@ pub fn svg(name: &str, yard: &Yard) -> String {
         svg.circle(&class("end", run), line[0]);
         svg.circle(&class("end", run), line[line.len() - 1]);
     }
-    let base = |b: &Box| (b.centre().0, b.bottom - 0.02 * SMALL);
-    for ((n, _), b) in yard.blocks.iter().zip(&numbers) {
-        svg.text(base(b), "number", "middle", &n.to_string());
-    }
+    set_numbers(&mut svg, yard, &numbers);
     for ((run, text), b) in yard.runs.iter().zip(&texts).zip(&labels) {
-        svg.text(base(b), &class("label", run), "middle", text);
+        set(&mut svg, b, &class("label", run), text);
     }
-    foot(&mut svg, &frame);
+    scale_bar(&mut svg, &frame);
+    key(&mut svg, &frame);
     svg.line(format_args!("</svg>"));
     svg.0
 }

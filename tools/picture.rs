@@ -1,10 +1,11 @@
-//! Draws a yard file as an SVG of one A4 page: blocks with their numbers, runs with their routes and lengths. The
-//! edits go through the proved planner, from the static library `yard_abi`.
+//! Draws a yard file as an SVG of one A4 page: blocks with their numbers, and runs with their routes and lengths or the
+//! duct of one run with its cost.
 
 #[path = "../tests/yard/abi.rs"]
 #[allow(dead_code)]
 mod abi;
 mod drawing;
+mod duct_drawing;
 mod labels;
 #[path = "../tests/yard/linked.rs"]
 #[allow(dead_code)]
@@ -15,11 +16,12 @@ mod reader;
 #[path = "../tests/yard/tables.rs"]
 #[allow(dead_code)]
 mod tables;
+mod yards;
 
-use linked::Linked;
+use std::ffi::OsStr;
 use std::path::Path;
 use std::process::ExitCode;
-use tables::{Planner, Tables};
+use yards::{Place, Replayed};
 
 /// A yard after the edits of a file, as it is drawn.
 pub struct Yard {
@@ -30,9 +32,6 @@ pub struct Yard {
     pub stop: Option<reader::Stop>,
 }
 
-/// East and north, in centimetres.
-pub type Place = (u16, u16);
-
 pub struct Run {
     pub number: usize,
     /// The places of the route's marks and its length; the two ends alone if there is no way.
@@ -40,11 +39,8 @@ pub struct Run {
     pub length: Option<u32>,
 }
 
-fn replayed(file: &[u8]) -> Yard {
-    let (edits, stop) = reader::read(file);
-    let mut t = Tables::unstarted();
-    Linked.start(&mut t);
-    let refused = edits.iter().filter(|e| Linked.edit(&mut t, e) != 0).count();
+fn drawn(yard: &Replayed) -> Yard {
+    let t = &yard.tables;
     let corners = |words: &[u16]| -> Vec<Place> {
         let count = words[0] as usize;
         words[1..1 + 2 * count].chunks(2).map(|c| (c[0], c[1])).collect()
@@ -68,23 +64,39 @@ fn replayed(file: &[u8]) -> Yard {
         }
     }
     let blocks = blocks.into_iter().enumerate().filter(|(_, b)| !b.is_empty()).collect();
-    Yard { blocks, runs, edits: edits.len(), refused, stop }
+    Yard { blocks, runs, edits: yard.edits, refused: yard.refused, stop: yard.stop }
+}
+
+/// The picture of a file, with the duct of one run if that is wanted.
+fn picture(path: &Path, run: Option<u32>) -> Result<String, String> {
+    let yard = yards::replayed(&yards::bytes("yardpicture", path)?);
+    let name = path.file_name().unwrap_or(path.as_os_str()).to_string_lossy();
+    Ok(match run {
+        None => drawing::svg(&name, &drawn(&yard)),
+        Some(run) => duct_drawing::svg(&name, &drawn(&yard), run, &yards::duct(&yard.tables, run)),
+    })
 }
 
 fn main() -> ExitCode {
-    let Some(path) = std::env::args_os().nth(1) else {
-        eprintln!("usage: yardpicture FILE > yard.svg");
+    let words: Vec<std::ffi::OsString> = std::env::args_os().skip(1).collect();
+    let words: Vec<&OsStr> = words.iter().map(|w| w.as_os_str()).collect();
+    let number = |word: &OsStr| word.to_str()?.parse::<u32>().ok();
+    let wanted = match words[..] {
+        [path] => Some((path, None)),
+        [option, run, path] if option == "--duct" => number(run).map(|run| (path, Some(run))),
+        _ => None,
+    };
+    let Some((path, run)) = wanted else {
+        eprintln!("usage: yardpicture [--duct RUN] FILE > yard.svg");
         return ExitCode::from(2);
     };
-    let path = Path::new(&path);
-    match std::fs::read(path) {
-        Ok(file) => {
-            let name = path.file_name().unwrap_or(path.as_os_str()).to_string_lossy();
-            print!("{}", drawing::svg(&name, &replayed(&file)));
+    match picture(Path::new(path), run) {
+        Ok(svg) => {
+            print!("{svg}");
             ExitCode::SUCCESS
         }
-        Err(e) => {
-            eprintln!("yardpicture: cannot read the file '{}': {e}", path.display());
+        Err(why) => {
+            eprintln!("{why}");
             ExitCode::FAILURE
         }
     }
