@@ -1,6 +1,9 @@
 //! Tests of the program `yardlist`, run as a process: what it prints must be, byte for byte, the listing that the
 //! test's own reader and the second planner give.
 
+#[path = "../yard/duct_router.rs"]
+#[allow(dead_code)]
+mod duct_router;
 mod files;
 mod listing;
 #[path = "../yard/random.rs"]
@@ -347,6 +350,11 @@ fn main() -> ExitCode {
         // the listing of the second planner
         ["list", path] => fs::read(path).map_err(|e| format!("{path}: {e}")).map(|bytes| {
             print!("{}", listing(&bytes));
+            true
+        }),
+        // the ducts of the second router
+        ["ducts", path] => fs::read(path).map_err(|e| format!("{path}: {e}")).map(|bytes| {
+            print!("{}", listing::ducts(&bytes));
             true
         }),
         _ => Err("wrong words".to_string()),
