@@ -1,15 +1,16 @@
 /*
  * The yard planner: blocks to keep clear of, and shortest conduit runs around them.
  *
- * The caller owns four tables and lends them to every call, each as a pointer and a length in elements. The lengths
- * must be exactly those below. The tables must not overlap, and must be aligned for their element type. Together they
- * take 48,648 bytes. A call keeps nothing: there is no hidden state, no heap and no I/O. Calls on different tables may
- * run at the same time; calls on the same tables must not, except yard_check beside yard_check. A call uses about 4 KiB
- * of stack (3,944 bytes at most where it was measured, on x86-64): reserve 8 KiB.
+ * The caller owns four tables and lends them to every call, each as a pointer and a length in elements; a quote is
+ * lent blocks and runs alone, and lists of its own. The lengths must be exactly those below. Tables and lists must not
+ * overlap, and must be aligned for their element type. Together the tables take 48,648 bytes. A call keeps nothing:
+ * there is no hidden state, no heap and no I/O. Calls on different tables may run at the same time; calls on the same
+ * tables must not, except those that take them const beside each other. A call uses about 4 KiB of stack (3,944 bytes
+ * at most where it was measured, on x86-64): reserve 8 KiB. Only yard_quote_duct takes more, about 44 KiB.
  *
  * East is the first coordinate, north the second, from 0 to 32,767; lengths are in centimetres.
  *
- * A refused call (any answer but 0) changes nothing in any table.
+ * A refused call (any answer but 0) changes nothing in any table or list.
  */
 #ifndef YARD_H
 #define YARD_H
@@ -53,17 +54,18 @@ extern "C" {
 
 /* Answers. The questions are asked in this order, and the first that fails is the answer. */
 #define YARD_DONE 0             /* done; of yard_check: pairs and routes are right */
-#define YARD_WRONG_LENGTH 1     /* a table is not exactly as long as stated */
+#define YARD_WRONG_LENGTH 1     /* a table or list is not exactly as long as stated */
 #define YARD_WRONG_RECORD 2     /* a stored block or run is not one that these calls write */
 #define YARD_WRONG_NUMBER 3     /* the number is not below 24 */
 #define YARD_NOT_FREE 4         /* adding: the number is taken */
-#define YARD_NOT_TAKEN 5        /* removing or moving: the number is free */
+#define YARD_NOT_TAKEN 5        /* removing, moving or quoting: the number is free */
 #define YARD_WRONG_COUNT 6      /* adding a block: not 3 to 8 whole corners */
 #define YARD_WRONG_COORDINATE 7 /* a new or moved coordinate is not from 0 to 32,767 */
 #define YARD_NOT_CONVEX 8       /* adding a block: some corner is not strictly left of every side that it is not on */
 #define YARD_NOT_A_FILE 9       /* yard_read: not 5 to 8,192 bytes, the letters YRD and version 1 */
 #define YARD_NOT_A_RECORD 10    /* yard_read: the position is outside the file, the kind unknown or the record cut off */
 #define YARD_NOT_DRAWN 11       /* yard_check: a byte of pairs or routes is not what blocks and runs require */
+#define YARD_TOO_MANY_BLOCKS 12 /* yard_quote_duct: more than 8 blocks stand */
 
 /* An empty yard, whatever the tables held. Answers 0 or 1. */
 uint32_t yard_start(uint16_t *blocks, size_t blocks_len, uint16_t *runs, size_t runs_len, uint8_t *pairs,
@@ -100,6 +102,25 @@ uint32_t yard_move_run(uint16_t *blocks, size_t blocks_len, uint16_t *runs, size
 /* Are pairs and routes what blocks and runs require? Changes nothing. Answers 0, 1, 2 or 11. */
 uint32_t yard_check(const uint16_t *blocks, size_t blocks_len, const uint16_t *runs, size_t runs_len,
                     const uint8_t *pairs, size_t pairs_len, const uint32_t *routes, size_t routes_len);
+
+/*
+ * The duct of a run: a way that is laid only east-west and north-south, along the lines through every corner of a
+ * standing block and through the run's two ends. It goes from crossing to neighbouring crossing of these lines by
+ * straights that are clear. Its cost is its length and 25 for each change of direction; the least cost is taken, then
+ * the fewest changes, then the first list of crossings, compared east before north. Ends in one place are a duct of
+ * that one crossing, cost 0, where the place is clear.
+ *
+ * quote has exactly YARD_DUCT_QUOTE_LEN words: the state (YARD_ROUTE_FOUND or YARD_ROUTE_NO_WAY), the cost and the
+ * count of crossings, both 0 where there is no way. crossings has exactly YARD_DUCT_CROSSINGS_LEN words: east and
+ * north of every crossing on the way, bends or not, from the first end to the second; all other words are 0. It is
+ * scratch during a call that is accepted, so nobody else may look at it meanwhile. Blocks and runs are only read. The
+ * call uses about 44 KiB of stack. Answers 0 to 3, 5 and 12.
+ */
+#define YARD_DUCT_QUOTE_LEN 3
+#define YARD_DUCT_CROSSINGS_LEN 8712
+
+uint32_t yard_quote_duct(const uint16_t *blocks, size_t blocks_len, const uint16_t *runs, size_t runs_len, uint32_t run,
+                         uint32_t *quote, size_t quote_len, uint16_t *crossings, size_t crossings_len);
 
 /*
  * A yard file is the letters YRD, a 16-bit version (1), low byte first, then records from position 5 on: a kind byte, a
