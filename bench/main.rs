@@ -1,9 +1,10 @@
 //! The benchmark: a drag step of the proved planner beside a plain one of the same algorithm, one that draws
-//! everything from nothing, and Graphviz's, over several yards.
+//! everything from nothing, and Graphviz's, over several yards; and the duct quote.
 
 #[path = "../tests/yard/abi.rs"]
 #[allow(dead_code)]
 mod abi;
+mod ducts;
 mod graphviz;
 #[allow(dead_code)]
 mod plain;
@@ -201,12 +202,17 @@ fn our_time(g: &Grid) -> f64 {
     (0..ROUNDS).map(|_| drag(Planner::Ours, g, &mut g.tables(), &by)).fold(f64::MAX, f64::min)
 }
 
-/// The instructions of a step that callgrind counted: lines of planner, yard, runs and number.
+/// The instructions that callgrind counted: lines of planner, yard, runs and number, and of duct, yard and number.
 struct Counts(String);
 
 impl Counts {
     fn of(&self, planner: &str, g: &Grid) -> Option<f64> {
         let wanted = format!("{planner} {} {} ", g.word, g.runs);
+        self.0.lines().find_map(|l| l.strip_prefix(&wanted)?.parse().ok())
+    }
+
+    fn duct(&self, word: &str) -> Option<f64> {
+        let wanted = format!("duct {word} ");
         self.0.lines().find_map(|l| l.strip_prefix(&wanted)?.parse().ok())
     }
 }
@@ -279,7 +285,10 @@ fn main() {
             println!();
             print_growth(&counts);
         }
+        ["ducts", counts] => ducts::print(&Counts(std::fs::read_to_string(counts).unwrap_or_default())),
         ["stack"] => stack::print(),
+        // for callgrind: one duct quote
+        ["duct", word] => ducts::once(word),
         // for callgrind: a drag of some steps, nothing printed
         ["drag", planner, grid, runs, steps] => {
             let p = match planner {

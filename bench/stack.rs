@@ -1,6 +1,6 @@
 //! The greatest depth of stack inside each call: the call runs on a stack painted beforehand.
 
-use crate::{abi::*, displacements, Grid, Tables, CROWDED};
+use crate::{abi::*, displacements, ducts, Grid, Tables, CROWDED};
 use std::arch::asm;
 
 const SIZE: usize = 1 << 20;
@@ -21,9 +21,12 @@ enum Call {
     RemoveRun,
     MoveRun([u16; 4]),
     Check,
+    QuoteDuct([u32; ducts::QUOTE], Vec<u16>),
 }
 
 const NUMBER: u32 = 8;
+/// Of the duct quote, which needs no pairs and routes.
+const LIMIT: usize = 48 << 10;
 
 extern "C" fn perform(job: *mut Job) {
     let job = unsafe { &mut *job };
@@ -31,7 +34,7 @@ extern "C" fn perform(job: *mut Job) {
     let (b, bl, r, rl) = (t.blocks.as_mut_ptr(), t.blocks.len(), t.runs.as_mut_ptr(), t.runs.len());
     let (p, pl, w, wl) = (t.pairs.as_mut_ptr(), t.pairs.len(), t.routes.as_mut_ptr(), t.routes.len());
     let answer = unsafe {
-        match &job.call {
+        match &mut job.call {
             Call::Start => yard_start(b, bl, r, rl, p, pl, w, wl),
             Call::AddBlock(c) => yard_add_block(b, bl, r, rl, p, pl, w, wl, NUMBER, c.as_ptr(), c.len()),
             Call::RemoveBlock => yard_remove_block(b, bl, r, rl, p, pl, w, wl, NUMBER),
@@ -40,6 +43,7 @@ extern "C" fn perform(job: *mut Job) {
             Call::RemoveRun => yard_remove_run(b, bl, r, rl, p, pl, w, wl, NUMBER),
             Call::MoveRun(e) => yard_move_run(b, bl, r, rl, p, pl, w, wl, NUMBER, e[0], e[1], e[2], e[3]),
             Call::Check => yard_check(b, bl, r, rl, p, pl, w, wl),
+            Call::QuoteDuct(q, c) => yard_quote_duct(b, bl, r, rl, 0, q.as_mut_ptr(), q.len(), c.as_mut_ptr(), c.len()),
         }
     };
     if answer != 0 {
@@ -108,4 +112,8 @@ pub fn print() {
     }
     println!("tables 48648 + stack {most} = {} bytes, to stay below 65536", 48648 + most);
     assert!(48648 + most < 65536);
+    let duct = |y: &ducts::Yard| (y.tables(), Call::QuoteDuct([0; ducts::QUOTE], vec![0; ducts::CROSSINGS]));
+    let bytes = greatest(&ducts::YARDS.iter().map(duct).collect::<Vec<_>>());
+    println!("{:<18} {bytes:>6} over the yards of the duct quote, to stay below {LIMIT}", "yard_quote_duct");
+    assert!(bytes < LIMIT);
 }
