@@ -1,0 +1,3 @@
+pub mod Checker
+pub mod Yards
+pub mod Trials

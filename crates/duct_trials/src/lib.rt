@@ -1,0 +1,1 @@
+// Small duct yards are theorems about the definitions: proofs/Trials.antt.
