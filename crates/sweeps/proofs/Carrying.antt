@@ -26,14 +26,14 @@ module _ (end : ℕ) (K : ℕ → ℕ) (b v : ℕ) where
   pub leave-most : leave end K b v ≤ K v + 1638401 * b
   leave-most = elim (ℕ-discrete v end) [ yes e ↦ omega (arith, leave-end e) | no n ↦ omega (arith, leave-on n refl) ]
 
-module _ (F : Lanes) (d v c : ℕ) where
-  pub through-none : {u : ℕ} → u ≡ stepOf (F .steps) d v → 4356 ≤ u → unreached ≡ through F d v c
+module _ (steps : List ℕ) (d v w c : ℕ) where
+  pub through-none : {u : ℕ} → u ≡ stepOf steps d v → 4356 ≤ u → unreached ≡ through steps d v w c
   unfolding through
-  through-none q l = rw (le-ltb (stepOf (F .steps) d v) 4356 (omega arith))
+  through-none q l = rw (le-ltb (stepOf steps d v) 4356 (omega arith))
 
-  pub through-is : {u s : ℕ} → u ≡ stepOf (F .steps) d v → u < 4356 → s ≡ span (F .xs) (F .ys) v u → 65536 * s + c ≡ through F d v c
+  pub through-is : {u : ℕ} → u ≡ stepOf steps d v → u < 4356 → 65536 * w + c ≡ through steps d v w c
   unfolding through
-  through-is q l e = rw (lt-ltb (stepOf (F .steps) d v) 4356 (omega arith), e, q)
+  through-is q l = rw (lt-ltb (stepOf steps d v) 4356 (omega arith))
 
 one-of : (t : Bool) → cond t 0 1 ≤ 1
 one-of true = omega arith
@@ -97,22 +97,26 @@ module _ {G : Net} {F : Lanes} (leads : Leads G F) {top low : List ℕ} (f : Fai
           let t = turned b 0 (omega arith) (f .attained v vl (omega arith)) in
           record { by = t .by; path = t .path; within = omega (arith, t .within) }
 
-  through-attained : (d v c : ℕ) → d ≤ 3 → v < 4356 → (stepOf (F .steps) d v < 4356 → c < unreached → Attained G (F .end) (axisBy d) (stepOf (F .steps) d v) c)
-      → through F d v c < unreached → Attained G (F .end) (axisBy d) v (through F d v c)
-  through-attained d v c dl vl held h = go (decLt (stepOf (F .steps) d v) 4356)
+  -- what the crossing behind v has
+  abbrev Held : ℕ → ℕ → ℕ → ℕ → Type 0
+  Held d v w c = stepOf (F .steps) d v < 4356 → c < unreached
+      → (w ≡ span (F .xs) (F .ys) v (stepOf (F .steps) d v)) × Attained G (F .end) (axisBy d) (stepOf (F .steps) d v) c
+
+  through-attained : (d v w c : ℕ) → d ≤ 3 → v < 4356 → Held d v w c → through (F .steps) d v w c < unreached → Attained G (F .end) (axisBy d) v (through (F .steps) d v w c)
+  through-attained d v w c dl vl held h = go (decLt (stepOf (F .steps) d v) 4356)
     where
-      go : Dec (stepOf (F .steps) d v < 4356) → Attained G (F .end) (axisBy d) v (through F d v c)
-      go (no n) = absurd (omega (arith, through-none F d v c refl (omega arith)))
+      go : Dec (stepOf (F .steps) d v < 4356) → Attained G (F .end) (axisBy d) v (through (F .steps) d v w c)
+      go (no n) = absurd (omega (arith, through-none (F .steps) d v w c refl (omega arith)))
       go (yes l) =
-          let q = through-is F d v c refl l refl in
+          let q = through-is (F .steps) d v w c refl l in
           let s = leads d v dl vl l in
           let t = held l (omega arith) in
           record {
-            by = v ∷ t .by;
-            path = onward (s .step) (t .path);
-            within = omega (arith, key-more G (F .end) (axisBy d) v (t .path), straight s, t .within, ap (λ (a : ℕ). keyFrom G a (t .by)) (s .axis));
+            by = v ∷ t .1 .by;
+            path = onward (s .step) (t .1 .path);
+            within = omega (arith, key-more G (F .end) (axisBy d) v (t .1 .path), straight s, t .0, t .1 .within, ap (λ (a : ℕ). keyFrom G a (t .1 .by)) (s .axis));
           }
 
-  pub carried-attained : (d v c c′ : ℕ) → d ≤ 3 → v < 4356 → (stepOf (F .steps) d v < 4356 → c < unreached → Attained G (F .end) (axisBy d) (stepOf (F .steps) d v) c)
-      → c′ ≡ min (leave (F .end) (keyAt top low) (axisBy d) v) (through F d v c) → c′ < unreached → Attained G (F .end) (axisBy d) v c′
-  carried-attained d v c c′ dl vl held e = attained-least e (leave-attained (axisBy d) v vl) (through-attained d v c dl vl held)
+  pub carried-attained : (d v w c c′ : ℕ) → d ≤ 3 → v < 4356 → Held d v w c
+      → c′ ≡ min (leave (F .end) (keyAt top low) (axisBy d) v) (through (F .steps) d v w c) → c′ < unreached → Attained G (F .end) (axisBy d) v c′
+  carried-attained d v w c c′ dl vl held e = attained-least e (leave-attained (axisBy d) v vl) (through-attained d v w c dl vl held)

@@ -1,14 +1,17 @@
 -- A pass along a line, the passes along all lines, the four directions in turn.
 use mathlib.Core.Path.{_≡_, refl, sym, ap, _∙_, subst}
 use mathlib.Core.List.{List}
-use Prim.Native.Nat.{ℕ, zero, suc, _+_, _*_, _-_, _/_, _≤_, _<_, min}
+use Prim.Native.Nat.{ℕ, zero, suc, _+_, _*_, _-_, _/_, _%_, _≤_, _<_, min}
 use native.Mathlib.Omega.{arith}
 use native.Mathlib.Numerals.{add-one}
 use native.Mathlib.Decide.{ℕ-discrete}
+use borrow.Author.Tests.{ne-eqb}
+use Rattle.geometry.specs.Words.{word}
+use Rattle.lengths.specs.Length.{gap}
 use Rattle.nets.specs.Net.{Net}
 use Rattle.nets.specs.inner.Keys.{Attained}
-use Rattle.crossings.specs.inner.Charts.{stepOf, axisBy}
-use Rattle.sweeps.specs.inner.Keys.{keyAt, unreached, Lanes, leave, through, onLine, lineKey, Calm, Fair, total, Improved, Lowered, Passed, Swept, AllCalm, Rounded, Searched}
+use Rattle.crossings.specs.inner.Charts.{spot, span, stepOf, axisBy}
+use Rattle.sweeps.specs.inner.Keys.{keyAt, unreached, Lanes, leave, through, onLine, gapOn, lineKey, Calm, Fair, total, Improved, Lowered, Passed, Swept, AllCalm, Rounded, Searched}
 use Rattle.sweeps.proofs.Lowering.{lowered-none, lowered-then, lowered-one, improved-not}
 use Rattle.sweeps.proofs.Carrying.{Toward, west, south, north, east, Leads, axis-small, turned, carried-attained}
 
@@ -18,6 +21,41 @@ line-back line n k a b (west e) = omega arith
 line-back line n k a b (south e f) = omega arith
 line-back line n k a b (north e f) = omega arith
 line-back line n k a b (east e) = omega arith
+
+-- the gap of two crossings on a line is their distance
+module _ (xs ys : List ℕ) where
+  span-east : (i j l : ℕ) → l < 66 → span xs ys (66 * i + l) (66 * j + l) ≡ gap (word xs i) (word xs j)
+  unfolding span spot
+  span-east i j l h =
+      let a : (66 * i + l) / 66 ≡ i = omega arith in
+      let b : (66 * j + l) / 66 ≡ j = omega arith in
+      let c : (66 * i + l) % 66 ≡ l = omega arith in
+      let d : (66 * j + l) % 66 ≡ l = omega arith in
+      rw (a, b, c, d) (omega arith)
+
+  span-north : (l i j : ℕ) → i < 66 → j < 66 → span xs ys (66 * l + i) (66 * l + j) ≡ gap (word ys i) (word ys j)
+  unfolding span spot
+  span-north l i j h k =
+      let a : (66 * l + i) / 66 ≡ l = omega arith in
+      let b : (66 * l + j) / 66 ≡ l = omega arith in
+      let c : (66 * l + i) % 66 ≡ i = omega arith in
+      let d : (66 * l + j) % 66 ≡ j = omega arith in
+      rw (a, b, c, d) (omega arith)
+
+  pub gap-is : {d u : ℕ} (line n k : ℕ) → line < 66 → n ≤ 66 → 0 < k → k < n → Toward (onLine d line n k) u d → gapOn xs ys d n k ≡ span xs ys (onLine d line n k) u
+  unfolding gapOn onLine
+  gap-is {u = u} line n k ll nl a b (west e) =
+      let q : u ≡ 66 * (k - 1) + line = omega arith in
+      rw (ne-eqb k 0 (λ (z : k ≡ 0). omega arith), q) (sym (span-east k (k - 1) line ll))
+  gap-is {u = u} line n k ll nl a b (south e f) =
+      let q : u ≡ 66 * line + (k - 1) = omega arith in
+      rw (ne-eqb k 0 (λ (z : k ≡ 0). omega arith), q) (sym (span-north line k (k - 1) (omega arith) (omega arith)))
+  gap-is {u = u} line n k ll nl a b (north e f) =
+      let q : u ≡ 66 * line + (n - k) = omega arith in
+      rw (ne-eqb k 0 (λ (z : k ≡ 0). omega arith), q) (sym (span-north line (n - 1 - k) (n - k) (omega arith) (omega arith)))
+  gap-is {u = u} line n k ll nl a b (east e) =
+      let q : u ≡ 66 * (n - k) + line = omega arith in
+      rw (ne-eqb k 0 (λ (z : k ≡ 0). omega arith), q) (sym (span-east (n - 1 - k) (n - k) line ll))
 
 pub line-below : (d line n k : ℕ) → d ≤ 3 → line < 66 → n ≤ 66 → k < n → onLine d line n k < 4356
 unfolding onLine
@@ -32,9 +70,10 @@ module _ (F : Lanes) (K : ℕ → ℕ) (d line n : ℕ) where
   unfolding lineKey
   line-none = refl
 
-  pub line-next : (k v c r : ℕ) → v ≡ onLine d line n k → c ≡ lineKey F K d line n k → r ≡ min (leave (F .end) K (axisBy d) v) (through F d v c) → r ≡ lineKey F K d line n (k + 1)
+  pub line-next : (k v w c r : ℕ) → v ≡ onLine d line n k → w ≡ gapOn (F .xs) (F .ys) d n k → c ≡ lineKey F K d line n k
+      → r ≡ min (leave (F .end) K (axisBy d) v) (through (F .steps) d v w c) → r ≡ lineKey F K d line n (k + 1)
   unfolding lineKey
-  line-next k v c r ve ce e = rw (add-one, sym ce, sym ve) e
+  line-next k v w c r ve we ce e = rw (add-one, sym ce, sym ve, sym we) e
 
   pub line-done : (k m c : ℕ) → k ≤ m → m ≤ k → c ≡ lineKey F K d line n k → c ≡ lineKey F K d line n m
   line-done k m c a b e = let q : k ≡ m = omega arith in e ∙ ap (lineKey F K d line n) q
@@ -53,9 +92,10 @@ module _ {G : Net} {F : Lanes} {d line n : ℕ} {top₀ low₀ : List ℕ} where
       record { few = omega arith; lowered = lowered-none f; held = λ h. absurd (omega arith); carry = λ e. line-none F (keyAt top₀ low₀) d line n; calm = λ e i l. absurd (omega arith) }
 
   module _ (leads : Leads G F) (dl : d ≤ 3) (ll : line < 66) (nl : n ≤ 66) {top low : List ℕ} {moved c k : ℕ} (p : Passing G F d line n top₀ low₀ top low moved c k) (kl : k < n) where
-    pub passing-next : {v c′ t : ℕ} {top′ low′ : List ℕ} {r : ℕ} → v ≡ onLine d line n k → c′ ≡ min (leave (F .end) (keyAt top low) (axisBy d) v) (through F d v c)
+    pub passing-next : {v w c′ t : ℕ} {top′ low′ : List ℕ} {r : ℕ} → v ≡ onLine d line n k → w ≡ gapOn (F .xs) (F .ys) d n k
+        → c′ ≡ min (leave (F .end) (keyAt top low) (axisBy d) v) (through (F .steps) d v w c)
         → t ≡ 1638401 * axisBy d → Improved top low v (c′ + t) top′ low′ r → Passing G F d line n top₀ low₀ top′ low′ (moved + r) c′ (k + 1)
-    passing-next {v} {c′} {t} {top′} {low′} {r} ve ce te i =
+    passing-next {v} {w} {c′} {t} {top′} {low′} {r} ve we ce te i =
         record {
           few = omega (arith, p .few, i .small);
           lowered = lowered-then (p .lowered) (lowered-one fair below (λ h. store (at (omega arith))) i);
@@ -73,14 +113,18 @@ module _ {G : Net} {F : Lanes} {d line n : ℕ} {top₀ low₀ : List ℕ} where
         back : v ≡ onLine d line n (k + 1 - 1)
         back = let q : k ≡ k + 1 - 1 = omega arith in ve ∙ ap (onLine d line n) q
 
-        behind : (l : stepOf (F .steps) d v < 4356) → 0 < k → onLine d line n (k - 1) ≡ stepOf (F .steps) d v
-        behind l h = sym (line-back line n k h kl (subst (λ (w : ℕ). Toward w (stepOf (F .steps) d v) d) ve (leads d v dl below l .toward)))
+        toward : stepOf (F .steps) d v < 4356 → Toward (onLine d line n k) (stepOf (F .steps) d v) d
+        toward l = subst (λ (x : ℕ). Toward x (stepOf (F .steps) d v) d) ve (leads d v dl below l .toward)
 
-        held-there : stepOf (F .steps) d v < 4356 → c < unreached → Attained G (F .end) (axisBy d) (stepOf (F .steps) d v) c
-        held-there l h = let t = p .held h in subst (λ (w : ℕ). Attained G (F .end) (axisBy d) w c) (behind l (t .0)) (t .1)
+        behind : stepOf (F .steps) d v < 4356 → c < unreached → (w ≡ span (F .xs) (F .ys) v (stepOf (F .steps) d v)) × Attained G (F .end) (axisBy d) (stepOf (F .steps) d v) c
+        behind l h =
+            let b = p .held h in (
+              we ∙ gap-is (F .xs) (F .ys) line n k ll nl (b .0) kl (toward l) ∙ ap (λ (x : ℕ). span (F .xs) (F .ys) x (stepOf (F .steps) d v)) (sym ve),
+              subst (λ (x : ℕ). Attained G (F .end) (axisBy d) x c) (sym (line-back line n k (b .0) kl (toward l))) (b .1),
+            )
 
         at : c′ < unreached → Attained G (F .end) (axisBy d) v c′
-        at = carried-attained leads fair d v c c′ dl below held-there ce
+        at = carried-attained leads fair d v w c c′ dl below behind ce
 
         store : Attained G (F .end) (axisBy d) v c′ → Attained G (F .end) 0 v (c′ + t)
         store a = let s = turned 0 (axisBy d) (axis-small d) a in record { by = s .by; path = s .path; within = omega (arith, s .within) }
@@ -88,7 +132,7 @@ module _ {G : Net} {F : Lanes} {d line n : ℕ} {top₀ low₀ : List ℕ} where
         carries : moved + r ≡ 0 → c′ ≡ lineKey F (keyAt top₀ low₀) d line n (k + 1)
         carries e =
             let s = p .lowered .still (omega arith) in
-            line-next F (keyAt top₀ low₀) d line n k v c c′ ve (p .carry (omega arith)) (rw (sym (s .0), sym (s .1)) ce)
+            line-next F (keyAt top₀ low₀) d line n k v w c c′ ve we (p .carry (omega arith)) (rw (sym (s .0), sym (s .1)) ce)
 
         calms : moved + r ≡ 0 → (j : ℕ) → j ≤ k → Dec (j ≡ k) → Calm F (keyAt top₀ low₀) d line n j
         calms e j l (no m) = p .calm (omega arith) j (omega arith)

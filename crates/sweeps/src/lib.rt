@@ -6,9 +6,9 @@ ghost use Rattle.geometry.specs.Words.{word};
 ghost use Rattle.crossings.specs.Grid.{net};
 ghost use Rattle.crossings.specs.inner.Charts.{ruled, Ruled, Charted, axisBy};
 ghost use Rattle.lists.specs.inner.Filled.{filled};
-ghost use Rattle.sweeps.specs.inner.Keys.{keyAt, lanes, leave, through, onLine, lineKey, Fair, Stored, Improved, Passed, Swept, Rounded, Searched, Opened};
+ghost use Rattle.sweeps.specs.inner.Keys.{keyAt, lanes, leave, through, onLine, gapOn, lineKey, Fair, Stored, Improved, Passed, Swept, Rounded, Searched, Opened};
 use crossings::neighbour;
-use crossings::span;
+use lengths::apart;
 use lists::fill16;
 
 fn wide16(x: u16) -> u64
@@ -87,6 +87,27 @@ fn on_line(d: usize, line: usize, n: usize, k: usize) -> usize
     66 * (n - 1 - k) + line
 }
 
+// How far crossing k of a line of n lies from crossing k - 1.
+fn gap_on(xs: &[u16], ys: &[u16], d: usize, n: usize, k: usize) -> u64
+    requires { ⌜ (length (now xs) ≡ 194) × (length (now ys) ≡ 194) × (n ≤ 66) × (k < n) ⌝ }
+    ensures value { λ r. ⌜ r ≡ gapOn (now (xs .entry)) (now (ys .entry)) d n k ⌝ }
+    ensures small { λ r. ⌜ r ≤ 65535 ⌝ }
+{
+    if k == 0 {
+        return 0;
+    }
+    if d == 0 {
+        return apart(xs[k], xs[k - 1]);
+    }
+    if d == 1 {
+        return apart(ys[k], ys[k - 1]);
+    }
+    if d == 2 {
+        return apart(ys[n - 1 - k], ys[n - k]);
+    }
+    apart(xs[n - 1 - k], xs[n - k])
+}
+
 // The key of v after a step along b, where the path ends or goes on north or south.
 fn leave(top: &[u16], low: &[u16], end: usize, b: u64, v: usize) -> u64
     requires { ⌜ (length (now top) ≡ 4356) × (length (now low) ≡ 8712) × (v < 4356) × (b ≤ 1) ⌝ }
@@ -99,36 +120,33 @@ fn leave(top: &[u16], low: &[u16], end: usize, b: u64, v: usize) -> u64
     key_at(top, low, v) + 1638401 * b
 }
 
-// The key of v by a step in direction d to a crossing of key c, where there is one.
-fn through(xs: &[u16], ys: &[u16], steps: &[u8], end: usize, d: usize, v: usize, c: u64) -> u64
-    requires { ⌜ (length (now xs) ≡ 194) × (length (now ys) ≡ 194) × (length (now steps) ≡ 4356) × (v < 4356) × (c < 300000000000000) ⌝ }
-    ensures { λ r. ⌜ r ≡ through (lanes (now (xs .entry)) (now (ys .entry)) (now (steps .entry)) end) d v c ⌝ }
+// The key of v by a step of length w in direction d to a crossing of key c, where there is one.
+fn through(steps: &[u8], d: usize, v: usize, w: u64, c: u64) -> u64
+    requires { ⌜ (length (now steps) ≡ 4356) × (v < 4356) × (w ≤ 65535) × (c < 300000000000000) ⌝ }
+    ensures { λ r. ⌜ r ≡ through (now (steps .entry)) d v w c ⌝ }
 {
-    let u = neighbour(steps, d, v);
-    if 4356 <= u {
+    if 4356 <= neighbour(steps, d, v) {
         return 281470681743360;
     }
-    65536 * span(xs, ys, v, u) + c
+    65536 * w + c
 }
 
-// The key that is carried on to v, from the key c of the crossing behind it.
+// The key that is carried on to v, over a gap of w, from the key c of the crossing behind it.
 fn carry_on(
-    xs: &[u16],
-    ys: &[u16],
     steps: &[u8],
     end: usize,
     top: &[u16],
     low: &[u16],
     d: usize,
     v: usize,
+    w: u64,
     c: u64,
 ) -> u64
-    requires lines { ⌜ (length (now xs) ≡ 194) × (length (now ys) ≡ 194) × (length (now steps) ≡ 4356) ⌝ }
-    requires keys { ⌜ (length (now top) ≡ 4356) × (length (now low) ≡ 8712) × (v < 4356) × (c < 300000000000000) ⌝ }
-    ensures value { λ r. ⌜ r ≡ min (leave end (keyAt (now (top .entry)) (now (low .entry))) (axisBy d) v) (through (lanes (now (xs .entry)) (now (ys .entry)) (now (steps .entry)) end) d v c) ⌝ }
+    requires { ⌜ (length (now steps) ≡ 4356) × (length (now top) ≡ 4356) × (length (now low) ≡ 8712) × (v < 4356) × (w ≤ 65535) × (c < 300000000000000) ⌝ }
+    ensures value { λ r. ⌜ r ≡ min (leave end (keyAt (now (top .entry)) (now (low .entry))) (axisBy d) v) (through (now (steps .entry)) d v w c) ⌝ }
     ensures small { λ r. ⌜ r < 300000000000000 ⌝ }
 {
-    let on = through(xs, ys, steps, end, d, v, c);
+    let on = through(steps, d, v, w, c);
     lower64(leave(top, low, end, axis_by(d), v), on)
 }
 
@@ -153,7 +171,8 @@ pub fn line_key(
     let mut c = 281470681743360;
     let mut k = 0;
     while k < m {
-        c = carry_on(xs, ys, steps, end, top, low, d, on_line(d, line, n, k), c);
+        let v = on_line(d, line, n, k);
+        c = carry_on(steps, end, top, low, d, v, gap_on(xs, ys, d, n, k), c);
         k += 1;
     }
     c
@@ -185,7 +204,7 @@ fn pass(
     let mut k = 0;
     while k < n {
         let v = on_line(d, line, n, k);
-        c = carry_on(xs, ys, steps, end, top, low, d, v, c);
+        c = carry_on(steps, end, top, low, d, v, gap_on(xs, ys, d, n, k), c);
         moved += improve(top, low, v, c + turn);
         k += 1;
     }

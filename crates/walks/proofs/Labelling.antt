@@ -11,9 +11,9 @@ use Rattle.nets.specs.inner.Keys.{weight, keyFrom, Attained, Relaxed}
 use Rattle.nets.proofs.Sums.{turn-first}
 use Rattle.crossings.specs.inner.Charts.{span, stepOf, axisBy}
 use Rattle.crossings.proofs.Directions.{Way, to-west, to-south, to-north, to-east, way}
-use Rattle.sweeps.specs.inner.Keys.{keyAt, unreached, Lanes, leave, through, onLine, lineKey, Calm, AllCalm, Searched}
+use Rattle.sweeps.specs.inner.Keys.{keyAt, unreached, Lanes, leave, through, onLine, gapOn, lineKey, Calm, AllCalm, Searched}
 use Rattle.sweeps.proofs.Carrying.{leave-end, leave-most, through-none, through-is, Toward, west, south, north, east, Led, Leads, axis-small, attained-least, carried-attained}
-use Rattle.sweeps.proofs.Passing.{line-back, line-below}
+use Rattle.sweeps.proofs.Passing.{line-back, gap-is, line-below}
 use Rattle.walks.specs.inner.Labels.{across, labelAt}
 
 -- the line of a crossing against direction d, its length and the place of the crossing on it
@@ -93,25 +93,40 @@ module _ {G : Net} {F : Lanes} {nx ny : ℕ} (m : Mapped G F nx ny) {top low : L
   unfoldable keyBy : ℕ → ℕ → ℕ
   keyBy d v = lineKey F K d (lineBy d v) (longBy nx ny d) (suc (placeBy nx ny d v))
 
-  key-is : (d v : ℕ) → d ≤ 3 → Inside nx ny v → keyBy d v ≡ min (leave (F .end) K (axisBy d) v) (through F d v (keyBy d (stepOf (F .steps) d v)))
-  unfolding keyBy lineKey
-  key-is d v dl i = rw (on-place nx ny d v dl i) (ap (λ (c : ℕ). min (leave (F .end) K (axisBy d) v) c) (go (decLt (stepOf (F .steps) d v) 4356)))
-    where
-      u : ℕ
-      u = stepOf (F .steps) d v
+  places : (d v : ℕ) → d ≤ 3 → Inside nx ny v → (lineBy d v < longBy ny nx d) × (placeBy nx ny d v < longBy nx ny d)
+  unfolding lineBy longBy placeBy
+  places zero v l i = (i .north, i .east)
+  places (suc zero) v l i = (i .east, i .north)
+  places (suc (suc zero)) v l i = (i .east, omega (arith, i .north))
+  places (suc (suc (suc zero))) v l i = (i .north, omega (arith, i .east))
+  places (suc (suc (suc (suc d)))) v l i = absurd (omega arith)
 
+  -- the least key by one step in direction d
+  unfoldable onBy : ℕ → ℕ → ℕ
+  onBy d v = through (F .steps) d v (span (F .xs) (F .ys) v (stepOf (F .steps) d v)) (keyBy d (stepOf (F .steps) d v))
+
+  key-is : (d v : ℕ) → d ≤ 3 → Inside nx ny v → keyBy d v ≡ min (leave (F .end) K (axisBy d) v) (onBy d v)
+  unfolding keyBy lineKey onBy
+  key-is d v dl i = rw (on-place nx ny d v dl i) (ap (min (leave (F .end) K (axisBy d) v)) (go (decLt (stepOf (F .steps) d v) 4356)))
+    where
       below : v < 4356
       below = inside-below (m .east-few) (m .north-few) i
 
       go : Dec (stepOf (F .steps) d v < 4356)
-          → through F d v (lineKey F K d (lineBy d v) (longBy nx ny d) (placeBy nx ny d v)) ≡ through F d v (keyBy d (stepOf (F .steps) d v))
+          → through (F .steps) d v (gapOn (F .xs) (F .ys) d (longBy nx ny d) (placeBy nx ny d v)) (lineKey F K d (lineBy d v) (longBy nx ny d) (placeBy nx ny d v)) ≡ onBy d v
       go (no n) =
-          sym (through-none F d v (lineKey F K d (lineBy d v) (longBy nx ny d) (placeBy nx ny d v)) refl (omega arith))
-          ∙ through-none F d v (keyBy d (stepOf (F .steps) d v)) refl (omega arith)
+          sym (through-none (F .steps) d v (gapOn (F .xs) (F .ys) d (longBy nx ny d) (placeBy nx ny d v)) (lineKey F K d (lineBy d v) (longBy nx ny d) (placeBy nx ny d v)) refl (omega arith))
+          ∙ through-none (F .steps) d v (span (F .xs) (F .ys) v (stepOf (F .steps) d v)) (keyBy d (stepOf (F .steps) d v)) refl (omega arith)
       go (yes l) =
           let t = m .leads d v dl below l in
           let p = next-place (t .toward) i (m .to (t .step)) in
-          ap (through F d v) (rw (p .0, p .1) refl)
+          let q = places d v dl i in
+          let o = on-place nx ny d v dl i in
+          let w : gapOn (F .xs) (F .ys) d (longBy nx ny d) (placeBy nx ny d v) ≡ span (F .xs) (F .ys) v (stepOf (F .steps) d v) =
+          gap-is (F .xs) (F .ys) (lineBy d v) (longBy nx ny d) (placeBy nx ny d v) (omega (arith, q .0, most ny nx d (m .north-few) (m .east-few))) (most nx ny d (m .east-few) (m .north-few))
+          (omega (arith, p .1)) (q .1) (subst (λ (x : ℕ). Toward x (stepOf (F .steps) d v) d) (sym o) (t .toward))
+          ∙ ap (λ (x : ℕ). span (F .xs) (F .ys) x (stepOf (F .steps) d v)) o in
+          rw w (ap (through (F .steps) d v (span (F .xs) (F .ys) v (stepOf (F .steps) d v))) (rw (p .0, p .1) refl))
 
   key-leave : (d v : ℕ) → d ≤ 3 → Inside nx ny v → keyBy d v ≤ K v + 1638401 * axisBy d
   key-leave d v dl i = omega (arith, key-is d v dl i, leave-most (F .end) K (axisBy d) v)
@@ -124,19 +139,15 @@ module _ {G : Net} {F : Lanes} {nx ny : ℕ} (m : Mapped G F nx ny) {top low : L
   calm-of (suc (suc (suc zero))) line k l = s .calm .east line k
   calm-of (suc (suc (suc (suc d)))) line k l = absurd (omega arith)
 
-  places : (d v : ℕ) → d ≤ 3 → Inside nx ny v → (lineBy d v < longBy ny nx d) × (placeBy nx ny d v < longBy nx ny d)
-  unfolding lineBy longBy placeBy
-  places zero v l i = (i .north, i .east)
-  places (suc zero) v l i = (i .east, i .north)
-  places (suc (suc zero)) v l i = (i .east, omega (arith, i .north))
-  places (suc (suc (suc zero))) v l i = (i .north, omega (arith, i .east))
-  places (suc (suc (suc (suc d)))) v l i = absurd (omega arith)
-
   key-calm : (d v : ℕ) → d ≤ 3 → Inside nx ny v → K v ≤ keyBy d v + 1638401 * axisBy d
   unfolding keyBy
   key-calm d v dl i =
       let p = places d v dl i in
       omega (arith, calm-of d (lineBy d v) (placeBy nx ny d v) dl (p .0) (p .1) .calm, ap K (on-place nx ny d v dl i))
+
+  on-is : (e x y : ℕ) → stepOf (F .steps) e x ≡ y → y < 4356 → onBy e x ≡ 65536 * span (F .xs) (F .ys) x y + keyBy e y
+  unfolding onBy
+  on-is e x y z l = rw z (sym (through-is (F .steps) e x (span (F .xs) (F .ys) x y) (keyBy e y) (sym z) l))
 
   -- a step in direction d
   module _ (d v u : ℕ) (dl : d ≤ 3) (st : G .Step v u) (q : stepOf (F .steps) d v ≡ u) where
@@ -147,15 +158,13 @@ module _ {G : Net} {F : Lanes} {nx ny : ℕ} (m : Mapped G F nx ny) {top low : L
     below = inside-below (m .east-few) (m .north-few)
 
     key-on : keyBy d v ≤ w + keyBy d u
-    key-on =
-        let t = through-is F d v (keyBy d (stepOf (F .steps) d v)) (sym q) (below (m .to st)) refl in
-        omega (arith, key-is d v dl (m .from st), ap (keyBy d) q)
+    key-on = omega (arith, key-is d v dl (m .from st), on-is d v u q (below (m .to st)))
 
     key-back : keyBy (3 - d) u ≡ min (leave (F .end) K (axisBy (3 - d)) u) (w + keyBy (3 - d) v)
     key-back =
         let b = m .back d v u dl (below (m .from st)) (below (m .to st)) q in
-        let t = through-is F (3 - d) u (keyBy (3 - d) (stepOf (F .steps) (3 - d) u)) (sym b) (below (m .from st)) (span-sym (F .xs) (F .ys) v u) in
-        key-is (3 - d) u (omega arith) (m .to st) ∙ ap (min (leave (F .end) K (axisBy (3 - d)) u)) (sym t ∙ ap (λ (x : ℕ). w + keyBy (3 - d) x) b)
+        let e : onBy (3 - d) u ≡ w + keyBy (3 - d) v = omega (arith, on-is (3 - d) u v b (below (m .from st)), span-sym (F .xs) (F .ys) v u) in
+        key-is (3 - d) u (omega arith) (m .to st) ∙ ap (min (leave (F .end) K (axisBy (3 - d)) u)) e
 
   -- the labels: north-south the keys themselves, east-west the lesser of both directions
   module _ (v : ℕ) (i : Inside nx ny v) where
@@ -229,14 +238,17 @@ module _ {G : Net} {F : Lanes} {nx ny : ℕ} (m : Mapped G F nx ny) {top low : L
       → Attained G (F .end) (axisBy d) (onLine d line n k) (lineKey F K d line n (suc k))
   unfolding lineKey
   line-attained d line n dl ll nl zero kl h =
-      carried-attained (m .leads) (s .fair) d (onLine d line n 0) unreached (lineKey F K d line n 1) dl (line-below d line n 0 dl ll nl kl) (λ l g. absurd (omega arith)) refl h
+      carried-attained (m .leads) (s .fair) d (onLine d line n 0) (gapOn (F .xs) (F .ys) d n 0) unreached (lineKey F K d line n 1) dl (line-below d line n 0 dl ll nl kl) (λ l g. absurd (omega arith)) refl h
   line-attained d line n dl ll nl (suc k) kl h =
       let v = onLine d line n (suc k) in
       let b = line-below d line n (suc k) dl ll nl kl in
       let z : suc k - 1 ≡ k = omega arith in
-      carried-attained (m .leads) (s .fair) d v (lineKey F K d line n (suc k)) (lineKey F K d line n (suc (suc k))) dl b
-      (λ l g. subst (λ (w : ℕ). Attained G (F .end) (axisBy d) w (lineKey F K d line n (suc k))) (sym (line-back line n (suc k) (omega arith) kl (m .leads d v dl b l .toward) ∙ ap (onLine d line n) z))
-      (line-attained d line n dl ll nl k (omega arith) g)) refl h
+      carried-attained (m .leads) (s .fair) d v (gapOn (F .xs) (F .ys) d n (suc k)) (lineKey F K d line n (suc k)) (lineKey F K d line n (suc (suc k))) dl b
+      (λ l g. (
+        gap-is (F .xs) (F .ys) line n (suc k) ll nl (omega arith) kl (m .leads d v dl b l .toward),
+        subst (λ (w : ℕ). Attained G (F .end) (axisBy d) w (lineKey F K d line n (suc k))) (sym (line-back line n (suc k) (omega arith) kl (m .leads d v dl b l .toward) ∙ ap (onLine d line n) z))
+            (line-attained d line n dl ll nl k (omega arith) g),
+      )) refl h
 
   key-attained : (d v : ℕ) → d ≤ 3 → Inside nx ny v → keyBy d v < unreached → Attained G (F .end) (axisBy d) v (keyBy d v)
   unfolding keyBy

@@ -9,6 +9,7 @@ use Rattle.sweeps.proofs.line_key.Tie as tie
 use Rattle.sweeps.proofs.line_key.Reads as reads
 use Rattle.sweeps.proofs.line_key.Lts as lts
 use Rattle.sweeps.proofs.carry_on.Reads as carry-on-reads
+use Rattle.sweeps.proofs.gap_on.Reads as gap-on-reads
 use Rattle.sweeps.proofs.on_line.Reads as on-line-reads
 
 abbrev Inv-loop : tie.InvT-loop
@@ -33,6 +34,7 @@ line-key-spec =
     Inv-loop
     μ-loop
     loop-holds
+    (λ c κs. search needs)
     (λ c κs. search needs)
     (λ c κs. search needs)
     (λ c. search needs)

@@ -13,6 +13,7 @@ use Rattle.sweeps.proofs.pass.Reads as reads
 use Rattle.sweeps.proofs.pass.Lts as lts
 use Rattle.sweeps.proofs.axis_by.Reads as axis-by-reads
 use Rattle.sweeps.proofs.carry_on.Reads as carry-on-reads
+use Rattle.sweeps.proofs.gap_on.Reads as gap-on-reads
 use Rattle.sweeps.proofs.improve.Reads as improve-reads
 use Rattle.sweeps.proofs.on_line.Reads as on-line-reads
 
@@ -29,13 +30,13 @@ loop-again : tie.Need-loop-again Inv-loop μ-loop
 loop-again c =
     let m = c .before .before .before .before in
     let a = m .before .before .before in
-    let o = a .before .before .before .before .before in
+    let o = a .before .before .before .before .before .before in
     let s = o .before .before .before .before .before .before .before .before in (
-      omega arith,
+      omega (arith, a .before .before .before .before .before .loop-test .taken),
       a .carry-on .ensures .1,
       o .loop .inv .2,
-      passing-next (leads-of (s .pre .0 .0) (s .pre .0 .1)) (s .pre .1 .1) (s .pre .1 .2) (s .pre .1 .3) (o .loop .inv .3) (a .before .before .before .before .loop-test .taken)
-          (a .before .before .before .on-line .ensures .0) (a .carry-on .ensures .0) (o .loop .inv .2) (m .improve .ensures),
+      passing-next (leads-of (s .pre .0 .0) (s .pre .0 .1)) (s .pre .1 .1) (s .pre .1 .2) (s .pre .1 .3) (o .loop .inv .3) (a .before .before .before .before .before .loop-test .taken)
+          (a .before .before .before .before .on-line .ensures .0) (a .before .gap-on .ensures .0) (a .carry-on .ensures .0) (o .loop .inv .2) (m .improve .ensures),
     )
 
 returns : tie.Need-returns Inv-loop μ-loop
@@ -50,6 +51,7 @@ pass-spec =
     (λ c κs. search needs)
     (λ c. search needs)
     loop-holds
+    (λ c κs. search needs)
     (λ c κs. search needs)
     (λ c κs. search needs)
     (λ c. search needs)

@@ -5,7 +5,6 @@ use Rattle.sweeps.proofs.through.Tie as tie
 use Rattle.sweeps.proofs.through.Reads as reads
 use Rattle.sweeps.proofs.through.Lts as lts
 use Rattle.crossings.proofs.neighbour.Reads as neighbour-reads
-use Rattle.crossings.proofs.span.Reads as span-reads
 
 returns : tie.Need-returns
 returns c = search through-none
@@ -14,5 +13,4 @@ returns-2 : tie.Need-returns-2
 returns-2 c = search through-is
 
 pub through-spec : {M : Type 1} → statement M
-through-spec =
-    tie.close (tie.spec (λ c κs. search needs) returns (λ c κs. search needs) (λ c. search needs) (λ c. search needs) returns-2)
+through-spec = tie.close (tie.spec (λ c κs. search needs) returns (λ c. search needs) (λ c. search needs) returns-2)

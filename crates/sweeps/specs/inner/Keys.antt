@@ -8,9 +8,10 @@ use lib.Dec.{eqb, ltb}
 use lib.ListN.{length, set}
 use Rattle.lists.specs.inner.Filled.{filled}
 use Rattle.geometry.specs.Words.{word}
+use Rattle.lengths.specs.Length.{gap}
 use Rattle.nets.specs.Net.{Net}
 use Rattle.nets.specs.inner.Keys.{Attained}
-use Rattle.crossings.specs.inner.Charts.{span, stepOf, axisBy}
+use Rattle.crossings.specs.inner.Charts.{stepOf, axisBy}
 
 -- the key of crossing v: one word of the first list and two of the second
 unfoldable pub keyAt : List ℕ → List ℕ → ℕ → ℕ
@@ -34,19 +35,23 @@ lanes xs ys steps end = record { xs = xs; ys = ys; steps = steps; end = end }
 unfoldable pub leave : ℕ → (ℕ → ℕ) → ℕ → ℕ → ℕ
 leave end K b v = cond (eqb v end) 0 (K v + 1638401 * b)
 
--- the key of v by a step in direction d to a crossing of key c, where there is one
-unfoldable pub through : Lanes → ℕ → ℕ → ℕ → ℕ
-through F d v c = cond (ltb (stepOf (F .steps) d v) 4356) (65536 * span (F .xs) (F .ys) v (stepOf (F .steps) d v) + c) unreached
+-- the key of v by a step of length w in direction d to a crossing of key c, where there is one
+unfoldable pub through : List ℕ → ℕ → ℕ → ℕ → ℕ → ℕ
+through steps d v w c = cond (ltb (stepOf steps d v) 4356) (65536 * w + c) unreached
 
 -- crossing k of a line of n: from crossing k + 1 direction d leads to it
 unfoldable pub onLine : ℕ → ℕ → ℕ → ℕ → ℕ
 onLine d line n k = cond (eqb d 0) (66 * k + line) (cond (eqb d 1) (66 * line + k) (cond (eqb d 2) (66 * line + (n - 1 - k)) (66 * (n - 1 - k) + line)))
 
+-- how far it lies from crossing k - 1
+unfoldable pub gapOn : List ℕ → List ℕ → ℕ → ℕ → ℕ → ℕ
+gapOn xs ys d n k = cond (eqb k 0) 0 (cond (eqb d 0) (gap (word xs k) (word xs (k - 1))) (cond (eqb d 1) (gap (word ys k) (word ys (k - 1))) (cond (eqb d 2) (gap (word ys (n - 1 - k)) (word ys (n - k))) (gap (word xs (n - 1 - k)) (word xs (n - k))))))
+
 -- the least key of the k-th crossing of a line after a step along the line, by paths that go on in direction d, turn or end
 unfoldable pub lineKey : Lanes → (ℕ → ℕ) → ℕ → ℕ → ℕ → ℕ → ℕ
-unfolding leave through onLine
+unfolding leave through onLine gapOn
 lineKey F K d line n zero = unreached
-lineKey F K d line n (suc k) = min (leave (F .end) K (axisBy d) (onLine d line n k)) (through F d (onLine d line n k) (lineKey F K d line n k))
+lineKey F K d line n (suc k) = min (leave (F .end) K (axisBy d) (onLine d line n k)) (through (F .steps) d (onLine d line n k) (gapOn (F .xs) (F .ys) d n k) (lineKey F K d line n k))
 
 -- no such path makes the key of the crossing less
 pub record Calm (F : Lanes) (K : ℕ → ℕ) (d line n k : ℕ) : Type 0 where
