@@ -10,8 +10,8 @@ use lib.Seq.{getD-take, getD-set-same, getD-set-other}
 use Rattle.lists.specs.inner.Tells.{Tells}
 use Rattle.geometry.specs.Words.{Point, point, word}
 use Rattle.geometry.specs.inner.Bounds.{InRange}
-use Rattle.geometry.proofs.Obstructing.{hidden-sym}
 use Rattle.visibility.specs.Visibility.{Clear}
+use Rattle.visibility.proofs.Straights.{clear-sym}
 use Rattle.crossings.specs.Grid.{Grid, Crossing, place, Beside, west, south, north, east, Stepping}
 use Rattle.crossings.specs.inner.Charts.{ruled, Ruled, spot, Told, Charted}
 
@@ -145,15 +145,12 @@ module _ (blocks : List ℕ) (g : Grid) where
       go-east v h (yes e) = rw (e, here, bits .1) q
       go-east v h (no e) = rw (getD-set-other steps n v (a + 2 * b) 0 e) (c .east v (omega arith))
 
-  -- a step back is a step
-  clear-sym : {p q : Point} → Clear blocks p q → Clear blocks q p
-  clear-sym {p} {q} c = record { seen = λ n l h. c .seen n l (hidden-sym blocks n q p h) }
-
   beside-sym : {v u : ℕ} → Beside v u → Beside u v
   beside-sym (west e) = east (sym e)
   beside-sym (south e f) = north (sym e) (sym f)
   beside-sym (north e f) = south (sym e) (sym f)
   beside-sym (east e) = west (sym e)
 
+  -- a step back is a step
   pub step-back : {v u : ℕ} → Stepping blocks g v u → Stepping blocks g u v
   step-back s = record { from = s .to; to = s .from; beside = beside-sym (s .beside); clear = clear-sym (s .clear) }

@@ -1,29 +1,10 @@
--- A straight that is clear ends at a place that is clear, so what is asked of the last crossing alone matters only to a path of one crossing.
-use mathlib.Core.Logic.{⊎-elim}
+-- A step leads to a place where a path may stop, so what is asked of the last crossing alone matters only to a path of one crossing.
 use mathlib.Core.List.{List}
-use Prim.Native.Nat.{ℕ, suc}
-use native.Mathlib.Omega.{arith}
-use lib.IntN.{ℤ, pos}
-use lib.Signed.{_<ℤ_}
-use lib.ListN.{length}
-use Rattle.geometry.specs.Words.{Point, blockWords, corners}
-use Rattle.geometry.specs.Obstruction.{sideTurn, Obstructs}
-use Rattle.geometry.specs.inner.Sides.{In}
-use Rattle.geometry.proofs.Signed.{_⊖_, diff, undiff, positive, ⊖-lt, below-or-not}
-use Rattle.geometry.proofs.Weights.{in-neither, enters-of, of-enters}
-use Rattle.geometry.proofs.Obstructing.{by-turns, of-turns}
-use Rattle.visibility.specs.Visibility.{Clear}
+use Prim.Native.Nat.{ℕ}
+use Rattle.nets.specs.Net.{Net}
+use Rattle.visibility.proofs.Straights.{clear-end}
+use Rattle.crossings.specs.Grid.{Grid, Stepping, net}
 
-last-in : (x y : ℤ) → pos 0 <ℤ y → In 0 1 x y
-last-in x y y₀ = positive (λ y. In 0 1 x y) (λ b. undiff (λ x. In 0 1 x (suc b ⊖ 0)) (λ a a′. simp diff (⊖-lt _ _ _ _ (omega arith))) x) y y₀
-
-end-in : (u s : ℕ) (x y : ℤ) → In u s y y → In 0 1 x y
-end-in u s x y h = ⊎-elim (λ l. last-in x y l) (λ l. absurd (in-neither u s y y l l h)) (below-or-not (pos 0) y)
-
-pub obstructs-end : (ps : List Point) (a b : Point) → Obstructs ps b b → Obstructs ps a b
-obstructs-end ps a b h =
-    let e = of-enters (length ps) (sideTurn ps b) (sideTurn ps b) (by-turns ps b b h) in
-    of-turns ps a b (enters-of (length ps) (sideTurn ps a) (sideTurn ps b) 0 1 (omega arith) (λ k l. end-in (e .0) (e .1) (sideTurn ps a k) (sideTurn ps b k) (e .3 k l)))
-
-pub clear-end : (blocks : List ℕ) (a b : Point) → Clear blocks a b → Clear blocks b b
-clear-end blocks a b c = record { seen = λ n l h. c .seen n l (record { stands = h .stands; across = obstructs-end (corners (blockWords blocks n)) a b (h .across) }) }
+pub step-stops : {blocks : List ℕ} {g : Grid} {v u : ℕ} → Stepping blocks g v u → net blocks g .Stop u
+unfolding net
+step-stops s = clear-end (s .clear)
