@@ -35,14 +35,15 @@ fn staggered(octagon: &[(i32, i32)], count: i32) -> Vec<Corners> {
     (0..count).map(|k| octagon.iter().flat_map(|c| [(centre(k).0 + c.0) as u16, (centre(k).1 + c.1) as u16]).collect()).collect()
 }
 
-/// Walls with their corners cut off, each by cuts of its own.
+/// Walls with their corners cut off, each by cuts of its own, and with sides that lean by a centimetre: no two corners
+/// lie on one line.
 fn walls(lines: &[[i32; 4]]) -> Vec<Corners> {
     let wall = |(k, line): (usize, &[i32; 4])| {
         let [w, s, e, n] = [(line[0], -1), (line[1], -1), (line[2], 1), (line[3], 1)].map(|(at, side)| 3000 * at + side * (400 + 9 * k as i32));
         let cut = |c: i32| 100 + 20 * c + 3 * k as i32;
         let corners = [
-            (w + cut(0), s), (e - cut(1), s), (e, s + cut(2)), (e, n - cut(3)),
-            (e - cut(4), n), (w + cut(5), n), (w, n - cut(6)), (w, s + cut(7)),
+            (w + cut(0), s), (e - cut(1), s + 1), (e, s + cut(2)), (e - 1, n - cut(3)),
+            (e - cut(4), n), (w + cut(5), n - 1), (w, n - cut(6)), (w + 1, s + cut(7)),
         ];
         corners.iter().flat_map(|c| [c.0 as u16, c.1 as u16]).collect()
     };

@@ -170,21 +170,26 @@ fn octagons(report: &mut Report) {
     report.case("66 lines each way often enough", |_| if full >= 8 { Ok(()) } else { Err(format!("only {full} of 40")) });
 }
 
-/// A wall round the straight from a to b, so thick on each side and past each end, with its corners cut off.
+/// A wall round the straight from a to b, so thick on each side and past each end, with its corners cut off and its sides
+/// leaning by a centimetre, so that it has eight different coordinates each way.
 fn wall(r: &mut Random, a: Place, b: Place, thick: i64) -> Vec<Place> {
     let (w, e, s, n) = (a.0.min(b.0) - thick, a.0.max(b.0) + thick, a.1.min(b.1) - thick, a.1.max(b.1) + thick);
-    let mut cut = || r.between(1, thick - 1);
-    vec![
-        (w + cut(), s), (e - cut(), s), (e, s + cut()), (e, n - cut()),
-        (e - cut(), n), (w + cut(), n), (w, n - cut()), (w, s + cut()),
-    ]
+    let mut cut = || r.between(2, thick - 1);
+    loop {
+        let corners = vec![
+            (w + cut(), s), (e - cut(), s + 1), (e, s + cut()), (e - 1, n - cut()),
+            (e - cut(), n), (w + cut(), n - 1), (w, n - cut()), (w + 1, s + cut()),
+        ];
+        if convex(&corners) {
+            return corners;
+        }
+    }
 }
 
 /// Walls along lines of places, and a run.
 fn walled(r: &mut Random, lines: &[&[Place]], thick: i64, ends: [Place; 2]) -> Book {
     let mut book = Book::new();
     let walls: Vec<Vec<Place>> = lines.iter().flat_map(|line| line.windows(2)).map(|w| wall(r, w[0], w[1], thick)).collect();
-    assert!(walls.len() <= 8 && walls.iter().all(|w| convex(w)));
     book.blocks[..walls.len()].clone_from_slice(&walls);
     book.runs[0] = ends.to_vec();
     book
