@@ -6,7 +6,7 @@
  * overlap, and must be aligned for their element type. Together the tables take 48,648 bytes. A call keeps nothing:
  * there is no hidden state, no heap and no I/O. Calls on different tables may run at the same time; calls on the same
  * tables must not, except those that take them const beside each other. A call uses about 4 KiB of stack (3,944 bytes
- * at most where it was measured, on x86-64): reserve 8 KiB. Only yard_quote_duct takes more, about 44 KiB.
+ * at most where it was measured, on x86-64): reserve 8 KiB. Only yard_quote_duct takes more, about 19 KB.
  *
  * East is the first coordinate, north the second, from 0 to 32,767; lengths are in centimetres.
  *
@@ -114,7 +114,7 @@ uint32_t yard_check(const uint16_t *blocks, size_t blocks_len, const uint16_t *r
  * count of crossings, both 0 where there is no way. crossings has exactly YARD_DUCT_CROSSINGS_LEN words: east and
  * north of every crossing on the way, bends or not, from the first end to the second; all other words are 0. It is
  * scratch during a call that is accepted, so nobody else may look at it meanwhile. Blocks and runs are only read. The
- * call uses about 44 KiB of stack. Answers 0 to 3, 5 and 12.
+ * call uses about 19 KB of stack (18,888 bytes where it was measured): reserve 24 KiB. Answers 0 to 3, 5 and 12.
  */
 #define YARD_DUCT_QUOTE_LEN 3
 #define YARD_DUCT_CROSSINGS_LEN 8712
