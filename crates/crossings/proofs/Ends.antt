@@ -1,7 +1,6 @@
 -- A step leads to a place where a path may stop, so what is asked of the last crossing alone matters only to a path of one crossing.
 use mathlib.Core.List.{List}
 use Prim.Native.Nat.{ℕ}
-use Rattle.nets.specs.Net.{Net}
 use Rattle.visibility.proofs.Straights.{clear-end}
 use Rattle.crossings.specs.Grid.{Grid, Stepping, net}
 

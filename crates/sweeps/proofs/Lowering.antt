@@ -1,14 +1,13 @@
 -- Keys that are made less stay keys of paths.
-use mathlib.Core.Path.{_≡_, refl, sym, ap, _∙_}
-use mathlib.Core.Logic.{_⊎_, inl, inr, ⊎-elim}
+use mathlib.Core.Path.{_≡_, refl, ap, _∙_}
+use mathlib.Core.Logic.{_⊎_, ⊎-elim}
 use mathlib.Core.List.{List}
-use Prim.Native.Nat.{ℕ, _+_, _*_, _/_, _%_, _≤_, _<_}
+use Prim.Native.Nat.{ℕ, _+_, _≤_, _<_}
 use native.Mathlib.Omega.{arith}
 use native.Mathlib.Decide.{ℕ-discrete}
-use lib.ListN.{length}
 use Rattle.nets.specs.Net.{Net}
 use Rattle.nets.specs.inner.Keys.{Attained}
-use Rattle.sweeps.specs.inner.Keys.{keyAt, unreached, Fair, total, Stored, Improved, Lowered}
+use Rattle.sweeps.specs.inner.Keys.{keyAt, unreached, Fair, Stored, Improved, Lowered}
 use Rattle.sweeps.proofs.Storing.{top-kept, low-kept, key-here, key-there, total-put}
 
 module _ {G : Net} {end : ℕ} where

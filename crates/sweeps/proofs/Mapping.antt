@@ -1,15 +1,13 @@
 -- The table of steps tells the steps of the net.
-use mathlib.Core.Path.{_≡_, refl, sym}
 use mathlib.Core.Logic.{inl, inr}
 use mathlib.Core.List.{List}
-use Prim.Native.Nat.{ℕ, _≤_, _<_}
-use native.Mathlib.Omega.{arith}
+use Prim.Native.Nat.{ℕ, _<_}
 use Rattle.crossings.specs.Grid.{Stepping, net}
 use Rattle.crossings.specs.inner.Charts.{ruled, Ruled, Charted, stepOf}
 use Rattle.crossings.proofs.Stepping.{span-reach, west-at, south-at, north-at, east-at, row-of}
 use Rattle.crossings.proofs.Directions.{Way, to-west, to-south, to-north, to-east, way, step-is, step-axis}
 use Rattle.sweeps.specs.inner.Keys.{lanes}
-use Rattle.sweeps.proofs.Carrying.{Toward, west, south, north, east, Led, Leads}
+use Rattle.sweeps.proofs.Carrying.{Toward, west, south, north, east, Leads}
 
 module _ {blocks xs : List ℕ} {nx : ℕ} {ys : List ℕ} {ny : ℕ} (rule : Ruled xs nx ys ny) {steps : List ℕ} (ch : Charted blocks (ruled xs nx ys ny) steps 4356) where
   toward-of : {d v : ℕ} → Way d → stepOf steps d v < 4356 → Stepping blocks (ruled xs nx ys ny) v (stepOf steps d v) → Toward v (stepOf steps d v) d

@@ -1,11 +1,9 @@
 // The search for the best path: passes along the lines in four directions, until no key becomes less.
 ghost use mathlib.Core.Path.{_≡_};
-ghost use Prim.Native.Nat.{ℕ, _+_, _*_, _-_, _<_, _≤_, min};
+ghost use Prim.Native.Nat.{_+_, _*_, _-_, _<_, _≤_, min};
 ghost use lib.ListN.{length};
-ghost use Rattle.geometry.specs.Words.{word};
 ghost use Rattle.crossings.specs.Grid.{net};
 ghost use Rattle.crossings.specs.inner.Charts.{ruled, Ruled, Charted, axisBy};
-ghost use Rattle.lists.specs.inner.Filled.{filled};
 ghost use Rattle.sweeps.specs.inner.Keys.{keyAt, lanes, leave, through, onLine, gapOn, lineKey, Fair, Stored, Improved, Passed, Swept, Rounded, Searched, Opened};
 use crossings::neighbour;
 use lengths::apart;

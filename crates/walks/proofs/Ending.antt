@@ -1,11 +1,11 @@
 -- The net of the lines: its table of steps, the keys before the search, and what the search for a path answers.
-use mathlib.Core.Path.{_≡_, refl, sym, ap, _∙_, subst}
+use mathlib.Core.Path.{_≡_, refl, sym, ap, _∙_}
 use mathlib.Core.Bool.{Bool, true, false, not}
 use mathlib.Core.List.{List, [], _∷_}
-use Prim.Native.Nat.{ℕ, _+_, _*_, _-_, _/_, _%_, _≤_, _<_}
+use Prim.Native.Nat.{ℕ, _+_, _*_, _-_, _/_, _≤_, _<_}
 use native.Mathlib.Omega.{arith}
 use native.Mathlib.Decide.{ℕ-discrete}
-use lib.ListN.{length, set, length-set, length-replicate, getD-replicate}
+use lib.ListN.{length, length-set, length-replicate, getD-replicate}
 use lib.Seq.{getD-set-same, getD-set-other}
 use Rattle.geometry.specs.Words.{Point, word}
 use Rattle.lists.specs.inner.Filled.{filled}
@@ -17,11 +17,11 @@ use Rattle.nets.specs.inner.Keys.{weight, keyFrom, Attained}
 use Rattle.nets.proofs.Sums.{turn-small, key-more}
 use Rattle.nets.proofs.Labels.{least, within}
 use Rattle.crossings.specs.Grid.{Grid, Crossing, Stepping, net}
-use Rattle.crossings.specs.inner.Charts.{ruled, Ruled, spot, Charted, stepOf}
+use Rattle.crossings.specs.inner.Charts.{ruled, Ruled, spot, Charted}
 use Rattle.crossings.proofs.Charts.{crossing-east, crossing-north, in-grid, place-of-crossing}
 use Rattle.crossings.proofs.Sizes.{reach-most, net-sized}
 use Rattle.crossings.proofs.Directions.{step-only, step-opposite}
-use Rattle.sweeps.specs.inner.Keys.{keyAt, unreached, Lanes, lanes, Fair, Searched, Opened}
+use Rattle.sweeps.specs.inner.Keys.{keyAt, unreached, lanes, Fair, Searched, Opened}
 use Rattle.sweeps.proofs.Mapping.{leads-of}
 use Rattle.walks.specs.inner.Paths.{Outcoming}
 use Rattle.walks.specs.inner.Labels.{labelAt, Trailed}

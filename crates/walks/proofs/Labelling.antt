@@ -1,17 +1,15 @@
 -- After the search the labels are relaxed, and each that is reached is that of a path.
 use mathlib.Core.Path.{_≡_, refl, sym, ap, _∙_, subst}
-use mathlib.Core.Logic.{_⊎_, inl, inr, ⊎-elim}
 use mathlib.Core.List.{List, [], _∷_}
 use Prim.Native.Nat.{ℕ, zero, suc, _+_, _*_, _-_, _/_, _%_, _≤_, _<_, min}
 use native.Mathlib.Omega.{arith}
-use native.Mathlib.Decide.{decLt, ℕ-discrete}
-use Rattle.lengths.specs.Length.{gap}
+use native.Mathlib.Decide.{decLt}
 use Rattle.nets.specs.Net.{Net, turn}
 use Rattle.nets.specs.inner.Keys.{weight, keyFrom, Attained, Relaxed}
 use Rattle.nets.proofs.Sums.{turn-first}
 use Rattle.crossings.specs.inner.Charts.{span, stepOf, axisBy}
 use Rattle.crossings.proofs.Directions.{Way, to-west, to-south, to-north, to-east, way}
-use Rattle.sweeps.specs.inner.Keys.{keyAt, unreached, Lanes, leave, through, onLine, gapOn, lineKey, Calm, AllCalm, Searched}
+use Rattle.sweeps.specs.inner.Keys.{keyAt, unreached, Lanes, leave, through, onLine, gapOn, lineKey, Calm, Searched}
 use Rattle.sweeps.proofs.Carrying.{leave-end, leave-most, through-none, through-is, Toward, west, south, north, east, Led, Leads, axis-small, attained-least, carried-attained}
 use Rattle.sweeps.proofs.Passing.{line-back, gap-is, line-below}
 use Rattle.walks.specs.inner.Labels.{across, labelAt}

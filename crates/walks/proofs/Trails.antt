@@ -1,13 +1,13 @@
 -- The walk by the labels keeps the best path.
 use mathlib.Core.Path.{_≡_, refl, sym, ap, _∙_, subst}
 use mathlib.Core.List.{List, [], _∷_, _++_, append-assoc}
-use Prim.Native.Nat.{ℕ, zero, suc, _+_, _*_, _-_, _/_, _≤_, _<_}
+use Prim.Native.Nat.{ℕ, zero, suc, _+_, _-_, _/_, _≤_, _<_}
 use native.Mathlib.Omega.{arith}
 use lib.ListN.{length, take, set, length-set, length-append}
 use lib.Seq.{take-suc-set}
 use Rattle.geometry.specs.Words.{word}
 use Rattle.nets.specs.Net.{Net, Path, arrive, onward, changes, cost}
-use Rattle.nets.specs.inner.Keys.{weight, keyFrom, Attained, Relaxed}
+use Rattle.nets.specs.inner.Keys.{keyFrom, Attained, Relaxed}
 use Rattle.nets.proofs.Sums.{key-more, key-cost, changes-few}
 use Rattle.nets.proofs.Cuts.{Sized}
 use Rattle.nets.proofs.Labels.{Walk, stop, move, reached, walk-path, walk-key, walk-best, short, weight-up}

@@ -1,6 +1,6 @@
 // The walk by the labels: the best path between two crossings, its steps kept a byte each.
 ghost use mathlib.Core.Path.{_≡_};
-ghost use Prim.Native.Nat.{ℕ, _+_, _*_, _/_, _%_, _<_, _≤_};
+ghost use Prim.Native.Nat.{_+_, _*_, _/_, _%_, _<_, _≤_};
 ghost use lib.ListN.{length};
 ghost use Rattle.geometry.specs.inner.Bounds.{Bounded};
 ghost use Rattle.lists.specs.inner.Tells.{Tells};

@@ -2,8 +2,6 @@ use borrow.Author.Needs.{needs}
 use Rattle.sweeps.proofs.Reading.{axis-south, axis-north, axis-else}
 use Rattle.sweeps.proofs.axis_by.Statement.{statement}
 use Rattle.sweeps.proofs.axis_by.Tie as tie
-use Rattle.sweeps.proofs.axis_by.Reads as reads
-use Rattle.sweeps.proofs.axis_by.Lts as lts
 
 returns : tie.Need-returns
 returns c = (search axis-south, search needs)

@@ -2,9 +2,6 @@ use Rattle.sweeps.proofs.Reading.{gap-none, gap-west, gap-south, gap-no
 use borrow.Author.Needs.{needs}
 use Rattle.sweeps.proofs.gap_on.Statement.{statement}
 use Rattle.sweeps.proofs.gap_on.Tie as tie
-use Rattle.sweeps.proofs.gap_on.Reads as reads
-use Rattle.sweeps.proofs.gap_on.Lts as lts
-use Rattle.lengths.proofs.apart.Reads as apart-reads
 
 returns : tie.Need-returns
 returns c = (search gap-none, search needs)

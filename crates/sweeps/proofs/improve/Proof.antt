@@ -2,10 +2,6 @@ use Rattle.sweeps.proofs.Reading.{improved-kept, improved-less}
 use borrow.Author.Needs.{needs}
 use Rattle.sweeps.proofs.improve.Statement.{statement}
 use Rattle.sweeps.proofs.improve.Tie as tie
-use Rattle.sweeps.proofs.improve.Reads as reads
-use Rattle.sweeps.proofs.improve.Lts as lts
-use Rattle.sweeps.proofs.key_at.Reads as key-at-reads
-use Rattle.sweeps.proofs.put_key.Reads as put-key-reads
 
 returns : tie.Need-returns
 returns c = search improved-kept

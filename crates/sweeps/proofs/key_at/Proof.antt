@@ -2,9 +2,6 @@ use Rattle.sweeps.proofs.Reading.{key-read}
 use borrow.Author.Needs.{needs}
 use Rattle.sweeps.proofs.key_at.Statement.{statement}
 use Rattle.sweeps.proofs.key_at.Tie as tie
-use Rattle.sweeps.proofs.key_at.Reads as reads
-use Rattle.sweeps.proofs.key_at.Lts as lts
-use Rattle.sweeps.proofs.wide16.Reads as wide16-reads
 
 returns : tie.Need-returns
 returns c = (search key-read, search needs)

@@ -2,9 +2,6 @@ use Rattle.sweeps.proofs.Carrying.{leave-end, leave-on}
 use borrow.Author.Needs.{needs}
 use Rattle.sweeps.proofs.leave.Statement.{statement}
 use Rattle.sweeps.proofs.leave.Tie as tie
-use Rattle.sweeps.proofs.leave.Reads as reads
-use Rattle.sweeps.proofs.leave.Lts as lts
-use Rattle.sweeps.proofs.key_at.Reads as key-at-reads
 
 returns : tie.Need-returns
 returns c = (search leave-end, search needs)

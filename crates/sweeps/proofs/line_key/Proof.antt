@@ -6,11 +6,6 @@ use Rattle.sweeps.specs.inner.Keys.{keyAt, lanes, lineKey}
 use Rattle.sweeps.proofs.Passing.{line-none, line-next, line-done}
 use Rattle.sweeps.proofs.line_key.Statement.{statement}
 use Rattle.sweeps.proofs.line_key.Tie as tie
-use Rattle.sweeps.proofs.line_key.Reads as reads
-use Rattle.sweeps.proofs.line_key.Lts as lts
-use Rattle.sweeps.proofs.carry_on.Reads as carry-on-reads
-use Rattle.sweeps.proofs.gap_on.Reads as gap-on-reads
-use Rattle.sweeps.proofs.on_line.Reads as on-line-reads
 
 abbrev Inv-loop : tie.InvT-loop
 Inv-loop xs ys steps end top low d line n m c₀ k₀ c k = (k ≤ m) × (c < 300000000000000) × (c ≡ lineKey (lanes xs ys steps end) (keyAt top low) d line n k)

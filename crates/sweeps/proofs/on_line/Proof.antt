@@ -2,8 +2,6 @@ use Rattle.sweeps.proofs.Reading.{on-west, on-south, on-north, on-east}
 use borrow.Author.Needs.{needs}
 use Rattle.sweeps.proofs.on_line.Statement.{statement}
 use Rattle.sweeps.proofs.on_line.Tie as tie
-use Rattle.sweeps.proofs.on_line.Reads as reads
-use Rattle.sweeps.proofs.on_line.Lts as lts
 
 returns : tie.Need-returns
 returns c = (search on-west, search needs)

@@ -2,9 +2,6 @@ use Rattle.sweeps.proofs.Reading.{opened}
 use borrow.Author.Needs.{needs}
 use Rattle.sweeps.proofs.open_keys.Statement.{statement}
 use Rattle.sweeps.proofs.open_keys.Tie as tie
-use Rattle.sweeps.proofs.open_keys.Reads as reads
-use Rattle.sweeps.proofs.open_keys.Lts as lts
-use Rattle.lists.proofs.fill16.Reads as fill16-reads
 
 returns : tie.Need-returns
 returns c = search opened

@@ -9,13 +9,6 @@ use Rattle.sweeps.proofs.Passing.{Passing, passing-none, passing-next, 
 use Rattle.sweeps.proofs.Mapping.{leads-of}
 use Rattle.sweeps.proofs.pass.Statement.{statement}
 use Rattle.sweeps.proofs.pass.Tie as tie
-use Rattle.sweeps.proofs.pass.Reads as reads
-use Rattle.sweeps.proofs.pass.Lts as lts
-use Rattle.sweeps.proofs.axis_by.Reads as axis-by-reads
-use Rattle.sweeps.proofs.carry_on.Reads as carry-on-reads
-use Rattle.sweeps.proofs.gap_on.Reads as gap-on-reads
-use Rattle.sweeps.proofs.improve.Reads as improve-reads
-use Rattle.sweeps.proofs.on_line.Reads as on-line-reads
 
 abbrev Inv-loop : tie.InvT-loop
 Inv-loop blocks xs nx ys ny steps end d line n top₀ low₀ turn moved₀ c₀ k₀ top low moved c k = (k ≤ n) × (c < 300000000000000) × (turn ≡ 1638401 * axisBy d) × Passing (net blocks (ruled xs nx ys ny)) (lanes xs ys steps end) d line n top₀ low₀ top low moved c k

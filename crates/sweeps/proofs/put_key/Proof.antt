@@ -2,8 +2,6 @@ use lib.ListN.{length-set}
 use borrow.Author.Needs.{needs}
 use Rattle.sweeps.proofs.put_key.Statement.{statement}
 use Rattle.sweeps.proofs.put_key.Tie as tie
-use Rattle.sweeps.proofs.put_key.Reads as reads
-use Rattle.sweeps.proofs.put_key.Lts as lts
 
 slice-write-low-2 : tie.Need-slice-write-low-2
 slice-write-low-2 c = simp length-set (search needs)

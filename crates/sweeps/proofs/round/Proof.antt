@@ -4,9 +4,6 @@ use Rattle.sweeps.proofs.Passing.{rounded}
 use borrow.Author.Needs.{needs}
 use Rattle.sweeps.proofs.round.Statement.{statement}
 use Rattle.sweeps.proofs.round.Tie as tie
-use Rattle.sweeps.proofs.round.Reads as reads
-use Rattle.sweeps.proofs.round.Lts as lts
-use Rattle.sweeps.proofs.sweep.Reads as sweep-reads
 
 sweep-requires-3 : tie.Need-sweep-requires-3
 sweep-requires-3 c κs = let s = c .before .before .before .before .before .before .before .before .before .before .before .before .before .before .before .before .before .before .before .before .before .before in (s .pre .0, (c .before .before .before .before .before .before .sweep2 .ensures .lowered .fair, omega arith, s .pre .0 .0 .xs-few, s .pre .0 .0 .ys-few))

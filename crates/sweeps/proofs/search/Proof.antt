@@ -1,15 +1,11 @@
 use borrow.Author.Needs.{needs}
 use mathlib.Core.Path.{sym, _∙_}
-use native.Mathlib.Omega.{arith}
 use Rattle.crossings.specs.Grid.{net}
 use Rattle.crossings.specs.inner.Charts.{ruled}
 use Rattle.sweeps.specs.inner.Keys.{Fair, total}
 use Rattle.sweeps.proofs.Passing.{searched, falls}
 use Rattle.sweeps.proofs.search.Statement.{statement}
 use Rattle.sweeps.proofs.search.Tie as tie
-use Rattle.sweeps.proofs.search.Reads as reads
-use Rattle.sweeps.proofs.search.Lts as lts
-use Rattle.sweeps.proofs.round.Reads as round-reads
 
 abbrev Inv-loop : tie.InvT-loop
 Inv-loop blocks xs nx ys ny steps end top₀ low₀ top low = Fair (net blocks (ruled xs nx ys ny)) end top low

@@ -1,5 +1,4 @@
 use borrow.Author.Needs.{needs}
-use mathlib.Core.Path.{_≡_}
 use Prim.Native.Nat.{_-_, _≤_}
 use native.Mathlib.Omega.{arith}
 use Rattle.crossings.specs.Grid.{net}
@@ -8,9 +7,6 @@ use Rattle.sweeps.specs.inner.Keys.{lanes}
 use Rattle.sweeps.proofs.Passing.{Sweeping, sweeping-none, sweeping-next, swept}
 use Rattle.sweeps.proofs.sweep.Statement.{statement}
 use Rattle.sweeps.proofs.sweep.Tie as tie
-use Rattle.sweeps.proofs.sweep.Reads as reads
-use Rattle.sweeps.proofs.sweep.Lts as lts
-use Rattle.sweeps.proofs.pass.Reads as pass-reads
 
 abbrev Inv-loop : tie.InvT-loop
 Inv-loop blocks xs nx ys ny steps end d m n top₀ low₀ moved₀ line₀ top low moved line = (line ≤ m) × Sweeping (net blocks (ruled xs nx ys ny)) (lanes xs ys steps end) d n top₀ low₀ top low moved line

@@ -2,9 +2,6 @@ use Rattle.sweeps.proofs.Carrying.{through-none, through-is}
 use borrow.Author.Needs.{needs}
 use Rattle.sweeps.proofs.through.Statement.{statement}
 use Rattle.sweeps.proofs.through.Tie as tie
-use Rattle.sweeps.proofs.through.Reads as reads
-use Rattle.sweeps.proofs.through.Lts as lts
-use Rattle.crossings.proofs.neighbour.Reads as neighbour-reads
 
 returns : tie.Need-returns
 returns c = search through-none

@@ -2,10 +2,6 @@ use Rattle.walks.proofs.Reading.{across-read}
 use borrow.Author.Needs.{needs}
 use Rattle.walks.proofs.across.Statement.{statement}
 use Rattle.walks.proofs.across.Tie as tie
-use Rattle.walks.proofs.across.Reads as reads
-use Rattle.walks.proofs.across.Lts as lts
-use Rattle.sweeps.proofs.line_key.Reads as line-key-reads
-use Rattle.sweeps.proofs.lower64.Reads as lower64-reads
 
 returns : tie.Need-returns
 returns c = (search across-read, search needs)

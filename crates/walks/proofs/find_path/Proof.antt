@@ -4,15 +4,6 @@ use Rattle.walks.proofs.Ending.{fair-start, end-stop, not-clear, not-re
 use borrow.Author.Needs.{needs}
 use Rattle.walks.proofs.find_path.Statement.{statement}
 use Rattle.walks.proofs.find_path.Tie as tie
-use Rattle.walks.proofs.find_path.Reads as reads
-use Rattle.walks.proofs.find_path.Lts as lts
-use Rattle.crossings.proofs.chart.Reads as chart-reads
-use Rattle.crossings.proofs.spot.Reads as spot-reads
-use Rattle.sweeps.proofs.open_keys.Reads as open-keys-reads
-use Rattle.sweeps.proofs.search.Reads as search-reads
-use Rattle.visibility.proofs.is_clear.Reads as is-clear-reads
-use Rattle.walks.proofs.label.Reads as label-reads
-use Rattle.walks.proofs.walk.Reads as walk-reads
 
 spot-requires : tie.Need-spot-requires
 spot-requires c κs = let s = c .before .before .before .before .before in let r = s .pre .0 .1 in let e = s .pre .1 .0 .1 in (r .xs-sized, r .ys-sized, in-grid _ _ _ _ r _ e)

@@ -3,13 +3,6 @@ use Rattle.walks.proofs.Reading.{step-on, leads-past, leads-is}
 use borrow.Author.Needs.{needs}
 use Rattle.walks.proofs.leads.Statement.{statement}
 use Rattle.walks.proofs.leads.Tie as tie
-use Rattle.walks.proofs.leads.Reads as reads
-use Rattle.walks.proofs.leads.Lts as lts
-use Rattle.crossings.proofs.neighbour.Reads as neighbour-reads
-use Rattle.crossings.proofs.span.Reads as span-reads
-use Rattle.sweeps.proofs.axis_by.Reads as axis-by-reads
-use Rattle.walks.proofs.label.Reads as label-reads
-use Rattle.walks.proofs.turn_key.Reads as turn-key-reads
 
 returns : tie.Need-returns
 returns c = search leads-past

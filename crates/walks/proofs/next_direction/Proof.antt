@@ -10,9 +10,6 @@ use Rattle.walks.proofs.Ending.{inside, mapped}
 use Rattle.walks.proofs.Nexts.{next-found, next-last}
 use Rattle.walks.proofs.next_direction.Statement.{statement}
 use Rattle.walks.proofs.next_direction.Tie as tie
-use Rattle.walks.proofs.next_direction.Reads as reads
-use Rattle.walks.proofs.next_direction.Lts as lts
-use Rattle.walks.proofs.leads.Reads as leads-reads
 
 abbrev Inv-loop : tie.InvT-loop
 Inv-loop blocks xs nx ys ny steps end top low v a key d₀ d = (d ≤ 3) × ((j : ℕ) → j < d → Leading (lanes xs ys steps end) (labelAt (lanes xs ys steps end) nx (keyAt top low)) v (stepOf steps j v) (axisBy j) a key → ⊥)

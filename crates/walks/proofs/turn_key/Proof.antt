@@ -2,8 +2,6 @@ use borrow.Author.Needs.{needs}
 use Rattle.walks.proofs.Reading.{turn-key-first, turn-key-same, turn-key-other}
 use Rattle.walks.proofs.turn_key.Statement.{statement}
 use Rattle.walks.proofs.turn_key.Tie as tie
-use Rattle.walks.proofs.turn_key.Reads as reads
-use Rattle.walks.proofs.turn_key.Lts as lts
 
 returns : tie.Need-returns
 returns c = (search turn-key-first, search needs)

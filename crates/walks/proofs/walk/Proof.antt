@@ -1,6 +1,5 @@
 use borrow.Author.Needs.{needs}
 use mathlib.Core.Path.{sym, _∙_}
-use Prim.Native.Nat.{_≤_}
 use native.Mathlib.Omega.{arith}
 use Rattle.crossings.specs.Grid.{net}
 use Rattle.crossings.specs.inner.Charts.{ruled}
@@ -13,12 +12,6 @@ use Rattle.walks.proofs.Ending.{inside, mapped}
 use Rattle.walks.proofs.Trails.{on-line, Going, going-none, going-room, next-inside, key-falls, going-next, arrived}
 use Rattle.walks.proofs.walk.Statement.{statement}
 use Rattle.walks.proofs.walk.Tie as tie
-use Rattle.walks.proofs.walk.Reads as reads
-use Rattle.walks.proofs.walk.Lts as lts
-use Rattle.crossings.proofs.neighbour.Reads as neighbour-reads
-use Rattle.sweeps.proofs.axis_by.Reads as axis-by-reads
-use Rattle.walks.proofs.label.Reads as label-reads
-use Rattle.walks.proofs.next_direction.Reads as next-direction-reads
 
 abbrev Inv-loop : tie.InvT-loop
 Inv-loop blocks xs nx ys ny steps end top low start trail₀ v₀ a₀ key₀ n₀ trail v a key n = Going (net blocks (ruled xs nx ys ny)) (lanes xs ys steps end) nx ny (labelAt (lanes xs ys steps end) nx (keyAt top low)) start trail v a key n
