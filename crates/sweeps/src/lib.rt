@@ -176,7 +176,7 @@ pub fn line_key(
     c
 }
 
-// One pass along a line of n crossings; answers how many keys became less.
+// One pass along a line of n crossings; answers how many keys became less. A turn adds 25 × 65,536 + 1 to a key.
 fn pass(
     blocks: &[u16],
     xs: &[u16],

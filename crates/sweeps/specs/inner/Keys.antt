@@ -31,7 +31,7 @@ pub record Lanes : Type 0 where
 abbrev pub lanes : List ℕ → List ℕ → List ℕ → ℕ → Lanes
 lanes xs ys steps end = record { xs = xs; ys = ys; steps = steps; end = end }
 
--- the key of v after a step along b, where the path ends or goes on north or south
+-- the key of v after a step along b, where the path ends or goes on north or south: a change of direction adds 25 × 65,536 + 1
 unfoldable pub leave : ℕ → (ℕ → ℕ) → ℕ → ℕ → ℕ
 leave end K b v = cond (eqb v end) 0 (K v + 1638401 * b)
 
