@@ -9,16 +9,16 @@ use Rattle.geometry.specs.Words.{blockWords}
 use Rattle.tables.specs.Tables.{Tables, records, runWords}
 use Rattle.tables.proofs.Splices.{part-length}
 use Rattle.records.proofs.Fits.{block-allowed, run-allowed}
-use Rattle.records.proofs.Places.{block-again, run-again}
+use Rattle.records.proofs.Places.{BlockPlace, vacant, RunPlace, unused, block-again, block-place, run-again, run-place}
 use Rattle.book.specs.Questions.{firstNo}
-use Rattle.book.specs.Book.{Edit, Book, emptyBook, afterAll}
+use Rattle.book.specs.Book.{Edit, Book, emptyBook, answers, afterAll}
 use Rattle.book.specs.Drawing.{Right, Drawn}
 use Rattle.book.specs.Edits.{bookOf, fitness, Started, Checked}
 use Rattle.book.specs.History.{Calls}
 use Rattle.book.proofs.Questions.{fitting}
-use Rattle.book.proofs.Stored.{book-block, book-run}
+use Rattle.book.proofs.Stored.{book-block, book-run, upTo-length, upTo-each}
 use Rattle.book.proofs.Sound.{Sound, empty-sound, all-sound}
-use Rattle.book.proofs.Demand3.{drawn-lengths, drawn-records, demand3}
+use Rattle.book.proofs.Demand3.{drawn-lengths, drawn-records, calls-drawn, demand3}
 
 pub drawn-checks : (b : Book) (T : Tables) (r : ℕ) → Sound b → Drawn b T → Checked T r → r ≡ 0
 unfolding firstNo
@@ -57,3 +57,25 @@ checked-drawn T c = go (ℕ-discrete (fitness T) 0)
         right-of : (_≡_ {A = ℕ} 0 0 × Right T) ⊎ (_≡_ {A = ℕ} 0 11 × (Right T → ⊥)) → Right T
         right-of (inl a) = a .1
         right-of (inr a) = absurd (omega (arith, a .0))
+
+-- and that book is sound, so that calls from there go on as from a start: this is how a panel that loads its tables begins
+pub checked-sound : (T : Tables) → Checked T 0 → Sound (bookOf (records T))
+unfolding bookOf
+checked-sound T c = go (ℕ-discrete (fitness T) 0)
+  where
+    go : Dec (fitness T ≡ 0) → Sound (bookOf (records T))
+    go (no z) = absurd (z (sym (c .unfit z)))
+    go (yes z) =
+        let f = fitting T z in
+        let s = f .sized in
+        record {
+          blockCount = upTo-length 24 _;
+          runCount = upTo-length 24 _;
+          blocks = λ n. upTo-each 24 _ BlockPlace vacant (λ k l. block-place _ (block-allowed (records T) (s .blocks) (s .runs) (f .right) k l)) n;
+          runs = λ m. upTo-each 24 _ RunPlace unused (λ k l. run-place _ (run-allowed (records T) (s .blocks) (s .runs) (f .right) k l)) m;
+        }
+
+-- tables that the check answers 0, wherever they come from, then any list of edits: the answers of that book, and the drawing of what it becomes
+pub checked-calls : (T T′ : Tables) (es : List Edit) (rs : List ℕ) → Checked T 0 → Calls es T rs T′
+    → (rs ≡ answers (bookOf (records T)) es) × Drawn (afterAll (bookOf (records T)) es) T′
+checked-calls T T′ es rs c = calls-drawn (bookOf (records T)) T T′ es rs (checked-sound T c) (checked-drawn T c)

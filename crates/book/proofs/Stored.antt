@@ -5,7 +5,7 @@ use Prim.Native.Nat.{ℕ, zero, suc, _+_, _*_, _<_}
 use native.Mathlib.Omega.{arith}
 use native.Mathlib.Decide.{decLt}
 use lib.Dec.{eqb, eqb·suc-zero}
-use lib.ListN.{length, getD, length-append, List·getD-append}
+use lib.ListN.{length, getD, length-append, List·getD-append, List·getD-eq-default}
 use lib.Seq.{getD-at, ext-getD}
 use Rattle.geometry.specs.Words.{Point, word, blockWords, placesFrom, corners}
 use Rattle.tables.specs.Tables.{Records, runWords}
@@ -28,6 +28,14 @@ upTo-at (suc n) f k h = go (decLt k n) (upTo-at n f k)
     go (no l) ih =
         let e : k ≡ n = omega arith in
         rw e (getD-at (upTo n f) (f n) [] [] n (upTo-length n f))
+
+-- what holds of every value, and of an empty place, holds at every place
+pub upTo-each : (n : ℕ) (f : ℕ → List Point) (P : List Point → Type 0) → P [] → ((k : ℕ) → k < n → P (f k)) → (k : ℕ) → P (getD (upTo n f) k [])
+upTo-each n f P none each k = go (decLt k n)
+  where
+    go : Dec (k < n) → P (getD (upTo n f) k [])
+    go (yes l) = rw (upTo-at n f k l) (each k l)
+    go (no l) = rw (List·getD-eq-default (upTo n f) [] {n = k} (omega (arith, upTo-length n f))) none
 
 pub upTo-is : (l : List (List Point)) (f : ℕ → List Point) → length l ≡ 24 → ((k : ℕ) → k < 24 → f k ≡ getD l k []) → upTo 24 f ≡ l
 upTo-is l f e h =

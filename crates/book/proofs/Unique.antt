@@ -1,5 +1,5 @@
 -- The definitions leave no choice: a pair's byte, a route's record, the drawing of a book and what a call leaves are each one thing.
-use mathlib.Core.Path.{_≡_, sym, _∙_, subst}
+use mathlib.Core.Path.{_≡_, refl, sym, _∙_, subst}
 use mathlib.Core.Logic.{_⊎_, inl, inr}
 use mathlib.Core.List.{List}
 use Prim.Native.Nat.{ℕ}
@@ -11,6 +11,7 @@ use Rattle.routing.specs.Routes.{RouteIs, Routed}
 use Rattle.book.specs.Book.{Book, Edit, Target, target, theBlock, theRun, written}
 use Rattle.book.specs.Drawing.{Drawn, Right}
 use Rattle.book.specs.Edits.{Called, Checked, Edited, Started, bookOf, fitness}
+use Rattle.book.specs.History.{Calls, call, noCalls}
 use Rattle.tables.proofs.Splices.{blocks-ext, routes-ext, runs-ext}
 use Rattle.tables.proofs.Pairs.{pairs-ext}
 use Rattle.visibility.proofs.Unique.{blockRedrawn-unique, pair-unique, runRedrawn-unique}
@@ -65,6 +66,14 @@ called-unique e T r r′ T₁ T₂ c d = (same-answer, go (ℕ-discrete r 0))
     go : Dec (r ≡ 0) → T₁ ≡ T₂
     go (yes z) = edited-unique (target e) T (written (bookOf (records T)) e) T₁ T₂ (c .done z) (d .done (sym same-answer ∙ z))
     go (no z) = c .refused z ∙ sym (d .refused (λ q. z (same-answer ∙ q)))
+
+-- so is what a list of calls answers and leaves
+pub calls-unique : {es : List Edit} {T : Tables} {rs rs′ : List ℕ} {T₁ T₂ : Tables} → Calls es T rs T₁ → Calls es T rs′ T₂ → (rs ≡ rs′) × (T₁ ≡ T₂)
+calls-unique noCalls noCalls = (refl, refl)
+calls-unique (call {e = e} {T = T} {T₁ = U} {r = r} c cs) (call {T₁ = U′} {r = r′} {rs = rs′} d ds) =
+    let one = called-unique e T r r′ U U′ c d in
+    let rest = calls-unique cs (rw (← (one .1)) at ds) in
+    (rw (one .0, rest .0), rest .1)
 
 pub started-unique : (T : Tables) (r r′ : ℕ) (T₁ T₂ : Tables) → Started T r T₁ → Started T r′ T₂ → (r ≡ r′) × (T₁ ≡ T₂)
 started-unique T r r′ T₁ T₂ c d = (same-answer, go (ℕ-discrete r 0))

@@ -186,7 +186,41 @@ run-again ws l h = go (run-cases ws h)
         at (suc (suc (suc (suc zero)))) b = refl
         at (suc (suc (suc (suc (suc i))))) b = absurd (omega arith)
 
--- and reads back as those places
+-- and says places that a block or a run may hold
+all-coordinates : (ws : List ℕ) → word ws 0 ≤ 8 → all coordinateRight (drop 1 ws) ≡ true → all coordinateRight ws ≡ true
+unfolding all
+all-coordinates [] h a = refl
+all-coordinates (w ∷ ws) h a = and-yes (coordinateRight w) (all coordinateRight ws) (le-leb w 32767 (omega arith)) a
+
+pub block-place : (ws : List ℕ) → blockRight ws ≡ true → BlockPlace (corners ws)
+unfolding placesFrom
+block-place ws h = go (block-cases ws h)
+  where
+    count : length (corners ws) ≡ word ws 0
+    count = places-length ws 1 (word ws 0)
+
+    go : (zeroFrom ws 0 ≡ true) ⊎ StandingRecord ws → BlockPlace (corners ws)
+    go (inl z) = rw (past-zero ws 0 0 z (omega arith)) vacant
+    go (inr s) =
+        standing {ps = corners ws}
+        record {
+          low = rw count (s .low);
+          high = rw count (s .high);
+          right = places-right ws 1 (word ws 0) (all-coordinates ws (s .high) (s .rest));
+          turns = s .turns;
+        }
+
+pub run-place : (ws : List ℕ) → runRight ws ≡ true → RunPlace (placesFrom ws 1 (2 * word ws 0))
+unfolding placesFrom all
+run-place ws h = go (run-cases ws h)
+  where
+    go : (zeroFrom ws 0 ≡ true) ⊎ ((word ws 0 ≡ 1) × (all coordinateRight (drop 1 ws) ≡ true)) → RunPlace (placesFrom ws 1 (2 * word ws 0))
+    go (inl z) = rw (past-zero ws 0 0 z (omega arith)) unused
+    go (inr s) =
+        let a = both (placeRight (placeAt ws 1)) _ (places-right ws 1 2 (all-coordinates ws (omega (arith, s .0)) (s .1))) in
+        rw (s .0) (two (and-yes (placeRight (placeAt ws 1)) (placeRight (placeAt ws 3)) (a .0) (both (placeRight (placeAt ws 3)) true (a .1) .0)))
+
+-- the record of a run's places reads back as them
 pub ends-record : (ps : List Point) → RunPlace ps → placesFrom (runRecord ps) 1 (2 * word (runRecord ps) 0) ≡ ps
 unfolding runRecord placesFrom placeWords
 ends-record ps unused = refl
