@@ -7,3 +7,5 @@ pub mod Rewrites
 pub mod Unique
 pub mod Checks
 pub mod Exists
+pub mod Bare
+pub mod Afternoon
