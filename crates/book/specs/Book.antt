@@ -1,4 +1,4 @@
--- The plain book of blocks and runs, kept from the edits alone. Document 01, "The plain book".
+-- The plain book of blocks and runs, kept from the edits alone. Rules 18, 23 and 24.
 use mathlib.Core.List.{List, [], _∷_, map}
 use mathlib.Core.Bool.{Bool, true, false, _&&_, not}
 use Prim.Native.Nat.{ℕ, zero, suc}

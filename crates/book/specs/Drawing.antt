@@ -1,4 +1,4 @@
--- The fresh drawing of a book. Document 01, "The plain book".
+-- The fresh drawing of a book. Rules 22 and 25.
 use mathlib.Core.Path.{_≡_}
 use mathlib.Core.List.{[]}
 use Prim.Native.Nat.{ℕ, _<_}

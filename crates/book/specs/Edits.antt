@@ -1,4 +1,4 @@
--- What each call answers and leaves, over any tables: the relations that the contracts cite. Document 01, "Calls and the questions put to them".
+-- What each call answers and leaves, over any tables: the relations that the contracts cite. Rules 15, 17, 18 and 22.
 use mathlib.Core.Path.{_≡_}
 use mathlib.Core.List.{List, [], _∷_, _++_}
 use mathlib.Core.Logic.{_⊎_}

@@ -1,4 +1,4 @@
--- Demand 3: a yard that was started and then edited in any way is its book's fresh drawing, and each answer the book's.
+-- Demand 3: a yard that was started and then edited in any way is its book's fresh drawing, and each answer the book's. Rules 26 and 27.
 use mathlib.Core.Path.{_≡_}
 use mathlib.Core.List.{List, [], _∷_}
 use mathlib.Core.Bool.{true}

@@ -1,4 +1,4 @@
--- Questions in order, and the number of the first that is answered no. Document 01, "Calls and the questions put to them".
+-- Questions in order, and the number of the first that is answered no. Rules 15 and 16.
 use mathlib.Core.List.{List, [], _∷_}
 use mathlib.Core.Bool.{Bool, _&&_, cond}
 use Prim.Native.Nat.{ℕ}

@@ -1,4 +1,4 @@
--- The crossings of a duct's lines and the steps between them. Document 02, T-06.
+-- The crossings of a duct's lines and the steps between them. Rule 34.
 use mathlib.Core.Path.{_≡_}
 use mathlib.Core.Bool.{cond}
 use mathlib.Core.List.{List}

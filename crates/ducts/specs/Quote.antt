@@ -1,4 +1,4 @@
--- The quote of a duct and the call that gives it. Document 02, T-06; document 01, "Calls and the questions put to them".
+-- The quote of a duct and the call that gives it. Rules 16 and 37.
 use mathlib.Core.Path.{_≡_}
 use mathlib.Core.Bool.{Bool, true, false, cond, _&&_}
 use mathlib.Core.List.{List, [], _∷_, _++_}

@@ -1,4 +1,4 @@
--- The edit that a record of a yard file asks for. Document 01, "Yard file and listing".
+-- The edit that a record of a yard file asks for. Rule 29.
 use mathlib.Core.List.{List}
 use mathlib.Core.Bool.{cond}
 use Prim.Native.Nat.{ℕ, _+_, _*_}

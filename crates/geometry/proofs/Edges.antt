@@ -1,4 +1,4 @@
--- Segments at the edge of the square S of document 01, and their rectangles.
+-- Segments at the edge of the square S of the trial yards, and their rectangles.
 use mathlib.Core.List.{List, [], _∷_}
 use Prim.Native.Nat.{ℕ, zero, suc, _<_}
 use native.Mathlib.Omega.{arith}

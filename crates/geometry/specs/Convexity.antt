@@ -1,4 +1,4 @@
--- When a list of corners is a convex polygon, anticlockwise. Document 01, question 8.
+-- When a list of corners is a convex polygon, anticlockwise. Rule 16, question 8.
 use mathlib.Core.List.{List}
 use mathlib.Core.Bool.{Bool, _||_}
 use Prim.Native.Nat.{ℕ}

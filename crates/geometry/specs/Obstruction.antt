@@ -1,4 +1,4 @@
--- When a segment is obstructed by a polygon. Document 01, "Hidden": a straight is a segment, and a block hides it when its polygon obstructs it.
+-- When a segment is obstructed by a polygon. Rules 7 and 8: a straight is a segment, and a block hides it when its polygon obstructs it.
 use mathlib.Core.List.{List}
 use Prim.Native.Nat.{ℕ, _+_, _*_, _%_, _<_, _≤_}
 use lib.IntN.{ℤ, pos, _+ℤ_, _-ℤ_, _*ℤ_}

@@ -1,4 +1,4 @@
--- When the enclosing rectangles of a segment and of a polygon overlap. Document 02, T-03.
+-- When the enclosing rectangles of a segment and of a polygon overlap. Rule 10.
 use mathlib.Core.List.{List, [], _∷_}
 use Prim.Native.Nat.{ℕ, _<_, min, max}
 use Rattle.geometry.specs.Words.{Point}

@@ -1,4 +1,4 @@
--- The words of the block table, and the corners that they say. Document 01, "What the yard holds".
+-- The words of the block table, and the corners that they say. Rules 1 and 2.
 use mathlib.Core.List.{List, [], _∷_}
 use Prim.Native.Nat.{ℕ, zero, suc, _+_, _*_}
 use lib.ListN.{getD, take, drop}

@@ -1,4 +1,4 @@
--- The length of a segment is the number that document 01 names: the smallest whose square is large enough.
+-- The length of a segment is the number that rule 11 names: the smallest whose square is large enough.
 use mathlib.Core.Path.{_≡_}
 use mathlib.Core.Bool.{cond}
 use Prim.Native.Nat.{ℕ, zero, suc, _*_, _<_, _≤_}

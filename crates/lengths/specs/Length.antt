@@ -1,4 +1,4 @@
--- The length of a segment, rounded up to a whole centimetre. Document 01, "Length of a straight".
+-- The length of a segment, rounded up to a whole centimetre. Rule 11.
 use mathlib.Core.Bool.{cond}
 use Prim.Native.Nat.{ℕ, zero, suc, _+_, _*_, _-_, _≤_}
 use lib.Dec.{leb}

@@ -1,4 +1,4 @@
--- The lines that a duct may use, in both directions. Document 02, T-06.
+-- The lines that a duct may use, in both directions. Rule 33.
 use mathlib.Core.Bool.{Bool, true, false, cond}
 use mathlib.Core.List.{List, [], _∷_}
 use Prim.Native.Nat.{ℕ, zero, suc}

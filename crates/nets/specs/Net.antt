@@ -1,4 +1,4 @@
--- Paths in a net of crossings, what they cost, and the best of them. Document 02, T-06.
+-- Paths in a net of crossings, what they cost, and the best of them. Rules 35 and 36.
 use mathlib.Core.Path.{_≡_}
 use mathlib.Core.Bool.{cond, _||_}
 use mathlib.Core.List.{List, [], _∷_}

@@ -1,4 +1,4 @@
--- Chains in a graph on numbered vertices, and the one that the fixed rule picks. Document 01, "Chain" and "Route": marks are vertices, clear straights are edges.
+-- Chains in a graph on numbered vertices, and the one that the fixed rule picks. Rules 12 to 14: marks are vertices, clear straights are edges.
 use mathlib.Core.Path.{_≡_}
 use mathlib.Core.List.{List, [], _∷_}
 use Prim.Native.Nat.{ℕ, _+_, _<_}

@@ -1,4 +1,4 @@
--- Questions 2, 6, 7 and 8 as tests of words and places. Document 01, "Calls and the questions put to them".
+-- Questions 2, 6, 7 and 8 as tests of words and places. Rules 1 and 16.
 use mathlib.Core.List.{List}
 use mathlib.Core.Bool.{Bool, _&&_, _||_}
 use Prim.Native.Nat.{ℕ, _+_, _*_, _/_, _%_}

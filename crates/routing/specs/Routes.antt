@@ -1,4 +1,4 @@
--- What the route table holds. Document 01, "Route" and the row "routes" of the table.
+-- What the route table holds. Rules 6 and 21.
 use mathlib.Core.Path.{_≡_}
 use mathlib.Core.List.{List, _∷_, _++_}
 use Prim.Native.Nat.{ℕ, _*_, _-_, _<_}

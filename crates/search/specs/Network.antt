@@ -1,4 +1,4 @@
--- The graph that a run is routed in. Document 01, "Chain": marks are vertices, clear straights are edges.
+-- The graph that a run is routed in. Rules 12, 13 and 21: marks are vertices, clear straights are edges.
 use mathlib.Core.Path.{_≡_}
 use mathlib.Core.List.{List}
 use mathlib.Core.Bool.{true}

@@ -1,4 +1,4 @@
--- The four tables, their records and marks. Document 01, "What the yard holds".
+-- The four tables, their records and marks. Rules 2 to 6.
 use mathlib.Core.List.{List}
 use mathlib.Core.Bool.{Bool, _&&_, _||_, cond}
 use Prim.Native.Nat.{ℕ, _+_, _*_, _-_, _/_, _%_, _<_, _≤_}

@@ -1,4 +1,4 @@
--- The words of a record that holds given places. Document 01, "What the yard holds": unused words are 0, and an absent record is all 0.
+-- The words of a record that holds given places. Rules 2 and 3: unused words are 0, and an absent record is all 0.
 use mathlib.Core.List.{List, [], _∷_, _++_}
 use Prim.Native.Nat.{ℕ, _*_, _-_}
 use lib.ListN.{length, replicate}

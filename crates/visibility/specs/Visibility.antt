@@ -1,4 +1,4 @@
--- What the pair table should hold, and what an edit makes of it. Document 01, "Marks" and the paragraph "An accepted edit of block n treats pairs so".
+-- What the pair table should hold, and what an edit makes of it. Rules 5, 9, 19 and 20.
 use mathlib.Core.Path.{_≡_}
 use mathlib.Core.List.{List}
 use mathlib.Core.Bool.{Bool, true, false, _&&_}

@@ -1,4 +1,4 @@
--- The yard file, version 1: what reading at a position finds. Document 01, "Yard file and listing", questions 9 and 10.
+-- The yard file, version 1: what reading at a position finds. Rules 16 and 28 to 30.
 use mathlib.Core.List.{List, [], _∷_}
 use mathlib.Core.Bool.{Bool, true, _&&_, _||_, cond}
 use Prim.Native.Nat.{ℕ, zero, suc, _+_, _*_}
@@ -45,7 +45,7 @@ readAt f at =
     (Refused 10))
     (Refused 9)
 
--- the paper's number for each answer; 0 for a record and the end
+-- the number of each answer; 0 for a record and the end
 abbrev pub numberOf : Reading → ℕ
 numberOf (Found r) = 0
 numberOf End = 0
