@@ -1,3 +1,4 @@
 pub mod Checker
+pub mod Square
 pub mod Yards
 pub mod Trials

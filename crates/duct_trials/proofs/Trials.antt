@@ -11,8 +11,8 @@ use Rattle.nets.specs.Net.{cost}
 use Rattle.crossings.specs.Grid.{net}
 use Rattle.ducts.specs.Quote.{gridOf, DuctIs}
 use Rattle.trials.proofs.Sight.{obstructed}
-use Rattle.trials.proofs.Yards.{S, yard}
-use Rattle.duct_trials.proofs.Yards.{bare, nothing, bare-judged, square-judged, shows, way, none}
+use Rattle.duct_trials.proofs.Square.{S, yard, square-judged}
+use Rattle.duct_trials.proofs.Yards.{bare, nothing, bare-judged, shows, way, none}
 
 -- what a list of crossings would cost run 0; crossing 66 i + j is that of line i from the west and line j from the south
 abbrev Costs : Records → List ℕ → ℕ → Type 0

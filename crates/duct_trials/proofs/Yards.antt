@@ -10,7 +10,6 @@ use Rattle.geometry.specs.Words.{Point, word}
 use Rattle.geometry.specs.Obstruction.{turn, sideTurn}
 use Rattle.tables.specs.Tables.{Records, stored, isCorner, placeOf}
 use Rattle.tables.proofs.Splices.{word-zeros, block-first}
-use Rattle.visibility.specs.Visibility.{Clear, PairIs, absent, clear, hidden}
 use Rattle.lists.specs.Lists.{allBelow}
 use Rattle.nets.specs.inner.Keys.{weight}
 use Rattle.nets.specs.Net.{turn as bend, Path, arrive, onward, cost}
@@ -18,9 +17,9 @@ use Rattle.lines.specs.Lines.{insert, indexOf, cornerLines}
 use Rattle.lines.proofs.Lists.{Placed, put-last, put-before, put-same, put-after, placed, index-here, index-past}
 use Rattle.crossings.specs.Grid.{grid, place, net, crossingAt}
 use Rattle.ducts.specs.Quote.{found, noWay, crossingWords, gridOf, ductStart, ductEnd, DuctIs}
-use Rattle.trials.proofs.Sight.{obstructed, seen-hidden, seen-clear}
-use Rattle.trials.proofs.Yards.{S, blocksS, oneRun, yard, byte-hidden, byte-clear}
+use Rattle.trials.proofs.Sight.{obstructed}
 use Rattle.duct_trials.proofs.Checker.{Judges, labelOf, checks, best-by}
+use Rattle.duct_trials.proofs.Square.{S, blocksS, oneRun, yard, square-judged}
 
 -- no blocks, and run 0 from p to q; nothing is hidden
 unfoldable pub noBlocks : List ℕ
@@ -35,21 +34,6 @@ nothing a b = false
 pub bare-judged : Judges noBlocks nothing
 unfolding noBlocks
 bare-judged = record { hides = λ a b e. absurd (true≢false (sym e)); clears = λ a b e. record { seen = λ n l h. omega (arith, h .stands, block-first noBlocks n, word-zeros 408 (17 * n)) } }
-
--- with S as block 0 the test is that of trials/proofs/Sight.antt
-pub square-judged : Judges blocksS (obstructed S)
-unfolding placeOf oneRun
-square-judged = record { hides = λ a b e c. shut a b c (byte-hidden a b (seen-hidden S a b e)); clears = λ a b e. seen a b (byte-clear a b (seen-clear S a b e)) }
-  where
-    shut : (a b : Point) → Clear blocksS a b → PairIs (yard a b) 192 193 0 → ⊥
-    shut a b c (absent p e) = omega arith
-    shut a b c (clear p d e) = omega arith
-    shut a b c (hidden p l h f) = c .seen 0 l h
-
-    seen : (a b : Point) → PairIs (yard a b) 192 193 254 → Clear blocksS a b
-    seen a b (absent p e) = absurd (omega arith)
-    seen a b (clear p d e) = d
-    seen a b (hidden p l h f) = absurd (omega arith)
 
 -- the path of run 0 is its first end and then the crossings us: the labels show that it is the best
 unfoldable pub shows : Records → (Point → Point → Bool) → List ℕ → List ℕ → Bool
