@@ -26,7 +26,7 @@ obstructed ps a b =
     allBelow (length ps) (λ k. open-side (sideTurn ps a k) (sideTurn ps b k))
     && allBelow (length ps) (λ i. allBelow (length ps) (λ j. open-pair (sideTurn ps a i) (sideTurn ps b i) (sideTurn ps a j) (sideTurn ps b j)))
 
-pub holds : (x y : ℤ) → ltZ x y ≡ true → x <ℤ y
+holds : (x y : ℤ) → ltZ x y ≡ true → x <ℤ y
 holds x y e = ltZ-yes (subst T (sym e) tt)
 
 fails : (x y : ℤ) → ltZ x y ≡ false → y ≤ℤ x

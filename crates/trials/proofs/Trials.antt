@@ -1,116 +1,119 @@
--- The starred rows of document 01, "Trial yards", as theorems about the definitions.
-use mathlib.Core.Path.{_≡_, refl}
+-- The table of trial yards, proved: one computed test, and one law that it says what a row says.
+use mathlib.Core.Path.{_≡_, refl, sym, _∙_}
 use mathlib.Core.List.{List, [], _∷_}
-use mathlib.Core.Bool.{false}
+use mathlib.Core.Bool.{Bool, true, false, _&&_, not, true≢false}
 use Prim.Native.Nat.{ℕ}
-use lib.Dec.{lit<, lit≤}
-use lib.ListN.{replicate}
-use Rattle.geometry.specs.Words.{Point, point}
-use Rattle.geometry.specs.Obstruction.{turn, sideTurn, Obstructs}
-use Rattle.geometry.specs.Convexity.{sideTest, convex}
-use Rattle.lists.specs.Lists.{allBelow}
-use Rattle.lengths.specs.Length.{lengthOf, rootUp}
-use Rattle.lengths.proofs.Roots.{root-at}
-use Rattle.visibility.specs.Visibility.{PairIs, ByPlaces}
-use Rattle.paths.specs.Path.{total}
+use native.Mathlib.Omega.{arith}
+use lib.Dec.{eqb}
+use borrow.Author.Tests.{eqb-true, not-true}
+use Rattle.lists.specs.Lists.{all, allBelow}
+use Rattle.lists.proofs.Every.{both, and-yes}
+use Rattle.geometry.specs.Words.{Point, placesFrom}
+use Rattle.geometry.specs.Obstruction.{turn, sideTurn}
+use Rattle.geometry.specs.Convexity.{convex, sideTest}
+use Rattle.lengths.specs.Length.{squared, lengthOf}
+use Rattle.tables.specs.Tables.{Tables, records, routeWords}
+use Rattle.records.specs.Questions.{placeRight, countRight}
+use Rattle.visibility.specs.Visibility.{ByPlaces, PairIs}
+use Rattle.visibility.proofs.Unique.{pair-unique}
 use Rattle.routing.specs.Routes.{RouteIs}
-use Rattle.search.specs.Network.{cost}
-use Rattle.trials.proofs.Sight.{obstructed, seen-hidden, seen-clear}
-use Rattle.trials.proofs.Yards.{S, yard, byte-hidden, byte-clear, route-round, route-length, ends-inside, starts-inside}
+use Rattle.routing.proofs.Unique.{route-unique}
+use Rattle.book.specs.Questions.{firstNo}
+use Rattle.book.specs.Book.{Book, Edit, emptyBook, free, questions, answer, written, step, afterAll, answers}
+use Rattle.book.specs.Drawing.{Drawn}
+use Rattle.book.specs.Edits.{Started}
+use Rattle.book.specs.History.{Calls}
+use Rattle.book.proofs.Demand3.{demand3}
+use Rattle.trials.specs.Rows.{Blocks, Row, sight, straight, way, shut, answered, addBlocks, Leaves, Byte, Found, NoWay, Holds, AllHold}
+use Rattle.trials.specs.Table.{rows}
+use Rattle.trials.proofs.Sight.{obstructed}
+use Rattle.trials.proofs.Measures.{measures, measured}
+use Rattle.trials.proofs.Drawings.{hiddenBy, seen, byteIs, byte-is}
+use Rattle.trials.proofs.Search.{labelled}
+use Rattle.trials.proofs.Shut.{starts-shut, ends-shut}
+use Rattle.trials.proofs.Ways.{shows, way-found}
+use Rattle.trials.proofs.Yards.{blocksBook, yardBook, stands, run-stored, leaves}
 
--- square S is (10,10) (20,10) (20,20) (10,20): Yards.antt; this is the block beside it
-abbrev beside : List Point
-beside = point 20 10 ∷ point 30 10 ∷ point 30 20 ∷ point 20 20 ∷ []
+-- two lists are the same
+unfoldable same : List ℕ → List ℕ → Bool
+same [] [] = true
+same [] (y ∷ ys) = false
+same (x ∷ xs) [] = false
+same (x ∷ xs) (y ∷ ys) = eqb x y && same xs ys
 
-abbrev Clear : List Point → Point → Point → Type 0
-Clear ps a b = Obstructs ps a b → ⊥
+same-is : (xs ys : List ℕ) → same xs ys ≡ true → xs ≡ ys
+unfolding same
+same-is [] [] h = refl
+same-is [] (y ∷ ys) h = absurd (true≢false (sym h))
+same-is (x ∷ xs) [] h = absurd (true≢false (sym h))
+same-is (x ∷ xs) (y ∷ ys) h = let p = both (eqb x y) _ h in λ i. eqb-true x y (p .0) i ∷ same-is xs ys (p .1) i
 
-along-a-side : Clear S (point 0 10) (point 30 10)
-unfolding obstructed allBelow sideTurn turn
-along-a-side = seen-clear S (point 0 10) (point 30 10) refl
+-- what the table rests on: this test of a row, computed
+unfoldable passes : Row → Bool
+unfolding addBlocks stands blocksBook afterAll answers step answer questions written firstNo free countRight all convex sideTest allBelow sideTurn turn placesFrom obstructed
+    seen byteIs measures labelled shows same
+passes (sight bs p q x) = stands bs && (placeRight p && placeRight q && byteIs (yardBook bs p q) p q x)
+passes (straight p q l) = measures (squared p q) l
+passes (way bs p q l []) = false
+passes (way bs p q l (v ∷ us)) =
+    stands bs && (placeRight p && placeRight q && (eqb v 192 && (eqb (labelled (yardBook bs p q) p q 192 .len) l && shows (yardBook bs p q) p q (labelled (yardBook bs p q) p q) us)))
+passes (shut bs p) = stands bs && (placeRight p && not (seen (blocksBook bs) p p))
+passes (answered es rs) = same (answers emptyBook es) rs
 
-just-inside : Obstructs S (point 0 11) (point 30 11)
-unfolding obstructed allBelow sideTurn turn
-just-inside = seen-hidden S (point 0 11) (point 30 11) refl
+tested : all passes rows ≡ true
+unfolding passes rows all
+tested = refl
 
-corner-to-corner : Obstructs S (point 10 10) (point 20 20)
-unfolding obstructed allBelow sideTurn turn
-corner-to-corner = seen-hidden S (point 10 10) (point 20 20) refl
+-- a drawing holds the byte and the route record that its places require
+byte-drawn : (b : Book) (T : Tables) (x : ℕ) → Drawn b T → PairIs (records T) 192 193 x → Byte x T
+byte-drawn b T x d h = pair-unique (records T) 192 193 _ x (d .right .pairs .each 192 193 (omega arith) (omega arith)) h
 
-touches-a-corner : Clear S (point 0 20) (point 20 0)
-unfolding obstructed allBelow sideTurn turn
-touches-a-corner = seen-clear S (point 0 20) (point 20 0) refl
+route-drawn : (b : Book) (T : Tables) (ws : List ℕ) → Drawn b T → RouteIs (records T) (ByPlaces (records T)) 0 ws → routeWords (T .routes) 0 ≡ ws
+route-drawn b T ws d h = route-unique (records T) (ByPlaces (records T)) 0 (d .right .routes 0 (omega arith)) h
 
--- though no whole point of it is inside
-between-whole-points : Obstructs S (point 0 21) (point 21 0)
-unfolding obstructed allBelow sideTurn turn
-between-whole-points = seen-hidden S (point 0 21) (point 21 0) refl
+-- the run does not matter for what is seen
+seen-alone : (bs : Blocks) (p q a c : Point) → seen (yardBook bs p q) a c ≡ seen (blocksBook bs) a c
+unfolding seen hiddenBy
+seen-alone bs p q a c = refl
 
-place-inside : Obstructs S (point 15 15) (point 15 15)
-unfolding obstructed allBelow sideTurn turn
-place-inside = seen-hidden S (point 15 15) (point 15 15) refl
+passes-holds : (r : Row) → passes r ≡ true → Holds r
+unfolding passes Holds lengthOf
+passes-holds (sight bs p q x) h =
+    let s = both (stands bs) _ h in
+    let r = both (placeRight p && placeRight q) _ (s .1) in
+    leaves bs p q (s .0) (r .0) (Byte x) (λ T d. byte-drawn _ T x d (byte-is (yardBook bs p q) T d p q (run-stored bs p q (s .0) (r .0)) x (r .1)))
+passes-holds (straight p q l) h = measured (squared p q) l h
+passes-holds (way bs p q l []) h = absurd (true≢false (sym h))
+passes-holds (way bs p q l (v ∷ us)) h =
+    let s = both (stands bs) _ h in
+    let r = both (placeRight p && placeRight q) _ (s .1) in
+    let a = both (eqb v 192) _ (r .1) in
+    let c = both (eqb (labelled (yardBook bs p q) p q 192 .len) l) _ (a .1) in
+    leaves bs p q (s .0) (r .0) (Found l (v ∷ us))
+    (λ T d. route-drawn _ T _ d (rw (eqb-true v 192 (a .0), ← eqb-true _ l (c .0))
+    (way-found (yardBook bs p q) p q (labelled (yardBook bs p q) p q) T d (run-stored bs p q (s .0) (r .0)) refl us (c .1))))
+passes-holds (shut bs p) h =
+    let s = both (stands bs) _ h in
+    let r = both (placeRight p) _ (s .1) in
+    let hides = not-true (seen (blocksBook bs) p p) (r .1) in
+    λ q o.
+    let from = and-yes (placeRight p) (placeRight q) (r .0) o in
+    let to = and-yes (placeRight q) (placeRight p) o (r .0) in (
+      leaves bs p q (s .0) from NoWay (λ T d. route-drawn _ T _ d (starts-shut (yardBook bs p q) T d p q (run-stored bs p q (s .0) from) (seen-alone bs p q p p ∙ hides))),
+      leaves bs q p (s .0) to NoWay (λ T d. route-drawn _ T _ d (ends-shut (yardBook bs q p) T d q p (run-stored bs q p (s .0) to) (seen-alone bs q p p p ∙ hides))),
+    )
+passes-holds (answered es rs) h = same-is (answers emptyBook es) rs h
 
-place-on-a-side : Clear S (point 10 15) (point 10 15)
-unfolding obstructed allBelow sideTurn turn
-place-on-a-side = seen-clear S (point 10 15) (point 10 15) refl
+all-hold : (rs : List Row) → all passes rs ≡ true → AllHold rs
+unfolding all AllHold
+all-hold [] h = tt
+all-hold (r ∷ rs) h = let p = both (passes r) _ h in (passes-holds r (p .0), all-hold rs (p .1))
 
-along-a-seam : Clear S (point 20 0) (point 20 30) × Clear beside (point 20 0) (point 20 30)
-unfolding obstructed allBelow sideTurn turn
-along-a-seam = (seen-clear S (point 20 0) (point 20 30) refl, seen-clear beside (point 20 0) (point 20 30) refl)
+-- the table is right
+pub trials : AllHold rows
+trials = all-hold rows tested
 
--- the five-corner star turns left at each corner and is not convex
-star : convex (point 10 0 ∷ point 16 20 ∷ point 0 8 ∷ point 20 8 ∷ point 4 20 ∷ []) ≡ false
-unfolding convex sideTest allBelow sideTurn turn
-star = refl
-
-length-none : lengthOf (point 0 0) (point 0 0) ≡ 0
-unfolding lengthOf rootUp
-length-none = refl
-
-length-diagonal : lengthOf (point 0 0) (point 1 1) ≡ 2
-unfolding lengthOf
-length-diagonal = root-at 2 1 (lit< tt) (lit≤ tt)
-
-length-three-four : lengthOf (point 0 0) (point 3 4) ≡ 5
-unfolding lengthOf
-length-three-four = root-at 25 4 (lit< tt) (lit≤ tt)
-
-length-across : lengthOf (point 0 0) (point 32767 32767) ≡ 46340
-unfolding lengthOf
-length-across = root-at 2147352578 46339 (lit< tt) (lit≤ tt)
-
--- in the yard that holds S as block 0 and run 0 from p to q: the words of the run's route, and the byte of its two ends
-abbrev Route : Point → Point → List ℕ → Type 0
-Route p q ws = RouteIs (yard p q) (ByPlaces (yard p q)) 0 ws
-
-abbrev Byte : Point → Point → ℕ → Type 0
-Byte p q b = PairIs (yard p q) 192 193 b
-
-round-the-square : Route (point 0 15) (point 30 15) (1 ∷ 34 ∷ 4 ∷ 192 ∷ 0 ∷ 1 ∷ 193 ∷ replicate 190 0)
-round-the-square = route-round
-
-length-round : total (cost (yard (point 0 15) (point 30 15))) (192 ∷ 0 ∷ 1 ∷ 193 ∷ []) ≡ 34
-length-round = route-length
-
--- no way, wherever the other end is
-end-inside : (p : Point) → Route p (point 15 15) (2 ∷ replicate 196 0) × Route (point 15 15) p (2 ∷ replicate 196 0)
-end-inside p = (ends-inside p, starts-inside p)
-
--- "hidden by 0" and "clear" as bytes
-byte-along : Byte (point 0 10) (point 30 10) 254
-byte-along = byte-clear (point 0 10) (point 30 10) along-a-side
-
-byte-just-inside : Byte (point 0 11) (point 30 11) 0
-byte-just-inside = byte-hidden (point 0 11) (point 30 11) just-inside
-
-byte-corners : Byte (point 10 10) (point 20 20) 0
-byte-corners = byte-hidden (point 10 10) (point 20 20) corner-to-corner
-
-byte-touching : Byte (point 0 20) (point 20 0) 254
-byte-touching = byte-clear (point 0 20) (point 20 0) touches-a-corner
-
-byte-between : Byte (point 0 21) (point 21 0) 0
-byte-between = byte-hidden (point 0 21) (point 21 0) between-whole-points
-
-byte-place : Byte (point 15 15) (point 15 15) 0 × Byte (point 10 15) (point 10 15) 254
-byte-place = (byte-hidden (point 15 15) (point 15 15) place-inside, byte-clear (point 10 15) (point 10 15) place-on-a-side)
+-- what a row says of a drawing is so of the calls: after a start, each of its edits answers 0, and the tables are as the row says
+pub leaves-called : (es : List Edit) (P : Tables → Type 0) → Leaves es P → (T₀ T T′ : Tables) (rs : List ℕ)
+    → Started T₀ 0 T → Calls es T rs T′ → (all (λ r. eqb r 0) rs ≡ true) × P T′
+leaves-called es P l T₀ T T′ rs s c = let d = demand3 T₀ T T′ es rs s c in (rw (d .0) (l .taken), l .each T′ (d .1))

@@ -1,1 +1,1 @@
-// The starred trial yards of document 01 are theorems about the definitions: proofs/Trials.antt.
+// The trial yards of specs/Table.antt are proved as one table: proofs/Trials.antt.

@@ -1,0 +1,173 @@
+-- What the drawing of a book with run 0 holds, read off the book's places by computed tests.
+use mathlib.Core.Path.{_≡_, refl, sym, ap, _∙_}
+use mathlib.Core.List.{List, [], _∷_}
+use mathlib.Core.Bool.{Bool, true, false, _&&_, not, cond}
+use Prim.Native.Nat.{ℕ, _+_, _*_, _/_, _%_, _<_}
+use native.Mathlib.Omega.{arith}
+use lib.Dec.{ltb, eqb}
+use lib.ListN.{length, getD}
+use borrow.Author.Tests.{ltb-true, lt-ltb, eqb-true, ne-eqb, not-true}
+use Rattle.lists.specs.Lists.{allBelow}
+use Rattle.lists.proofs.Below.{all-at, all-yes}
+use Rattle.lists.proofs.Every.{both, and-yes}
+use Rattle.geometry.specs.Words.{Point, point, word, blockWords, corners}
+use Rattle.geometry.specs.Obstruction.{cornerAt, Hidden}
+use Rattle.geometry.proofs.Corners.{corner-is}
+use Rattle.tables.specs.Tables.{Tables, records, isCorner, isEnd, present, placeOf}
+use Rattle.tables.specs.Written.{blockRecord, runRecord, placeWords}
+use Rattle.tables.proofs.Marks.{corner-place as placed-corner}
+use Rattle.tables.proofs.Splices.{block-word, block-first, run-word, corners-record}
+use Rattle.visibility.specs.Visibility.{bothPresent, Clear, PairIs, clear, hidden}
+use Rattle.search.proofs.Network.{corner-below}
+use Rattle.book.specs.Book.{Book}
+use Rattle.book.specs.Drawing.{Drawn}
+use Rattle.trials.proofs.Sight.{obstructed, seen-hidden, seen-clear}
+
+-- the corners of block n
+abbrev blockAt : Book → ℕ → List Point
+blockAt b n = getD (b .blocks) n []
+
+-- block n hides the straight; no block does
+unfoldable pub hiddenBy : Book → Point → Point → ℕ → Bool
+unfolding obstructed
+hiddenBy b p q n = ltb 0 (length (blockAt b n)) && obstructed (blockAt b n) p q
+
+unfoldable pub seen : Book → Point → Point → Bool
+unfolding hiddenBy allBelow
+seen b p q = allBelow 24 (λ n. not (hiddenBy b p q n))
+
+-- the byte of the straight: 254 if clear, else the lowest number of a block that hides it
+unfoldable pub byteIs : Book → Point → Point → ℕ → Bool
+unfolding hiddenBy seen allBelow
+byteIs b p q x = cond (eqb x 254) (seen b p q) (ltb x 24 && hiddenBy b p q x && allBelow x (λ n. not (hiddenBy b p q n)))
+
+-- mark u is a corner; every corner passes the test
+unfoldable pub cornerMark : Book → ℕ → Bool
+cornerMark b u = ltb u 192 && ltb (u % 8) (length (blockAt b (u / 8)))
+
+unfoldable pub eachCorner : Book → (ℕ → Bool) → Bool
+unfolding allBelow
+eachCorner b test = allBelow 24 (λ n. allBelow (length (blockAt b n)) (λ k. test (8 * n + k)))
+
+-- the place of a mark, where run 0 goes from p to q
+unfoldable pub markAt : Book → Point → Point → ℕ → Point
+markAt b p q u = cond (eqb u 192) p (cond (eqb u 193) q (cornerAt (blockAt b (u / 8)) (u % 8)))
+
+module _ (b : Book) (T : Tables) (d : Drawn b T) where
+  count-is : (n : ℕ) → n < 24 → word (T .blocks) (17 * n) ≡ length (blockAt b n)
+  unfolding blockRecord
+  count-is n l = sym (block-first (T .blocks) n) ∙ ap (λ (ws : List ℕ). word ws 0) (d .blocks n l)
+
+  corners-are : (n : ℕ) → n < 24 → corners (blockWords (T .blocks) n) ≡ blockAt b n
+  corners-are n l = rw (d .blocks n l) (corners-record (blockAt b n))
+
+  hidden-yes : (p q : Point) (n : ℕ) → n < 24 → hiddenBy b p q n ≡ true → Hidden (T .blocks) n p q
+  unfolding hiddenBy
+  hidden-yes p q n l h =
+      let e = both (ltb 0 (length (blockAt b n))) _ h in
+      record {
+        stands = rw (block-first (T .blocks) n, count-is n l) (ltb-true _ _ (e .0));
+        across = rw (corners-are n l) (seen-hidden (blockAt b n) p q (e .1));
+      }
+
+  hidden-no : (p q : Point) (n : ℕ) → n < 24 → hiddenBy b p q n ≡ false → Hidden (T .blocks) n p q → ⊥
+  unfolding hiddenBy
+  hidden-no p q n l h o =
+      let s : ltb 0 (length (blockAt b n)) ≡ true = lt-ltb 0 _ (rw (block-first (T .blocks) n, count-is n l) at (o .stands)) in
+      seen-clear (blockAt b n) p q (rw s at h) (rw (corners-are n l) at (o .across))
+
+  pub seen-yes : (p q : Point) → seen b p q ≡ true → Clear (T .blocks) p q
+  unfolding seen
+  seen-yes p q h = record { seen = λ n l. hidden-no p q n l (not-true _ (all-at (λ k. not (hiddenBy b p q k)) 24 n h l)) }
+
+  pub seen-of : (p q : Point) → Clear (T .blocks) p q → seen b p q ≡ true
+  unfolding seen
+  seen-of p q c = all-yes (λ k. not (hiddenBy b p q k)) 24 (λ n l. go n l (hiddenBy b p q n) refl)
+    where
+      go : (n : ℕ) → n < 24 → (t : Bool) → hiddenBy b p q n ≡ t → not (hiddenBy b p q n) ≡ true
+      go n l true e = absurd (c .seen n l (hidden-yes p q n l e))
+      go n l false e = ap not e
+
+  corner-there : (u : ℕ) → u < 192 → isCorner (T .blocks) u ≡ ltb (u % 8) (length (blockAt b (u / 8)))
+  unfolding isCorner
+  corner-there u l = rw (lt-ltb u 192 l, count-is (u / 8) (omega arith))
+
+  pub corner-of : (u : ℕ) → cornerMark b u ≡ true → isCorner (T .blocks) u ≡ true
+  unfolding cornerMark
+  corner-of u h = let e = both (ltb u 192) _ h in corner-there u (ltb-true _ _ (e .0)) ∙ e .1
+
+  corner-low : (u : ℕ) → isCorner (T .blocks) u ≡ true → u % 8 < length (blockAt b (u / 8))
+  corner-low u h = ltb-true _ _ (sym (corner-there u (corner-below (T .blocks) u h)) ∙ h)
+
+  pub at-corner : (test : ℕ → Bool) → eachCorner b test ≡ true → (u : ℕ) → isCorner (T .blocks) u ≡ true → test u ≡ true
+  unfolding eachCorner
+  at-corner test h u i =
+      let low = corner-below (T .blocks) u i in
+      let e : 8 * (u / 8) + u % 8 ≡ u = omega arith in
+      ap test (sym e)
+      ∙ all-at (λ k. test (8 * (u / 8) + k)) (length (blockAt b (u / 8))) (u % 8)
+      (all-at (λ n. allBelow (length (blockAt b n)) (λ k. test (8 * n + k))) 24 (u / 8) h (omega arith)) (corner-low u i)
+
+  corner-place : (u : ℕ) → isCorner (T .blocks) u ≡ true → placeOf (records T) u ≡ cornerAt (blockAt b (u / 8)) (u % 8)
+  corner-place u i =
+      let low = corner-below (T .blocks) u i in
+      let t = T .blocks in
+      let n = u / 8 in
+      let k = u % 8 in
+      let r : k < word (blockWords t n) 0 = rw (block-first t n, count-is n (omega arith)) (corner-low u i) in
+      let e : word t (17 * n + 1 + 2 * k) ≡ word (blockWords t n) (2 * k + 1) = ap (word t) (omega arith) ∙ sym (block-word t n (2 * k + 1) (omega arith)) in
+      let f : word t (17 * n + 1 + 2 * k + 1) ≡ word (blockWords t n) (2 * k + 2) = ap (word t) (omega arith) ∙ sym (block-word t n (2 * k + 2) (omega arith)) in
+      sym (placed-corner t (T .runs) u low) ∙ (λ j. point (e j) (f j)) ∙ sym (corner-is (blockWords t n) k r) ∙ ap (λ (ps : List Point). cornerAt ps k) (corners-are n (omega arith))
+
+  -- run 0 goes from p to q
+  module _ (p q : Point) (run : getD (b .runs) 0 [] ≡ p ∷ q ∷ []) where
+    run-is : (k : ℕ) → k < 5 → word (T .runs) (5 * 0 + k) ≡ word (runRecord (p ∷ q ∷ [])) k
+    run-is k l = sym (run-word (T .runs) 0 k l) ∙ ap (λ (ws : List ℕ). word ws k) (d .runs 0 (omega arith) ∙ ap runRecord run)
+
+    pub run-there : word (T .runs) 0 ≡ 1
+    unfolding runRecord
+    run-there = run-is 0 (omega arith)
+
+    pub first-place : placeOf (records T) 192 ≡ p
+    unfolding placeOf runRecord placeWords
+    first-place = let e = run-is 1 (omega arith) in let n = run-is 2 (omega arith) in λ i. point (e i) (n i)
+
+    pub second-place : placeOf (records T) 193 ≡ q
+    unfolding placeOf runRecord placeWords
+    second-place = let e = run-is 3 (omega arith) in let n = run-is 4 (omega arith) in λ i. point (e i) (n i)
+
+    -- the marks of the yard that a route of run 0 may touch
+    pub data Mark : ℕ → Type 0 where
+      start : Mark 192
+      finish : Mark 193
+      corner : {u : ℕ} → isCorner (T .blocks) u ≡ true → Mark u
+
+    pub place-is : {u : ℕ} → Mark u → placeOf (records T) u ≡ markAt b p q u
+    unfolding markAt
+    place-is start = first-place
+    place-is finish = second-place
+    place-is (corner {u} i) =
+        let low = corner-below (T .blocks) u i in
+        rw (ne-eqb u 192 (λ e. omega arith), ne-eqb u 193 (λ e. omega arith)) (corner-place u i)
+
+    pub present-is : {u : ℕ} → Mark u → present (records T) u ≡ true
+    unfolding present isCorner isEnd
+    present-is start = rw run-there
+    present-is finish = rw run-there
+    present-is (corner i) = rw i
+
+    pub byte-is : (x : ℕ) → byteIs b p q x ≡ true → PairIs (records T) 192 193 x
+    unfolding byteIs
+    byte-is x h = go (eqb x 254) refl h
+      where
+        there : bothPresent (records T) 192 193 ≡ true
+        there = and-yes (present (records T) 192) _ (present-is start) (present-is finish)
+
+        go : (t : Bool) → eqb x 254 ≡ t → cond t (seen b p q) (ltb x 24 && hiddenBy b p q x && allBelow x (λ n. not (hiddenBy b p q n))) ≡ true → PairIs (records T) 192 193 x
+        go true e s = clear there (rw (first-place, second-place) (seen-yes p q s)) (eqb-true x 254 e)
+        go false e s =
+            let c = both (ltb x 24 && hiddenBy b p q x) _ s in
+            let a = both (ltb x 24) _ (c .0) in
+            let l : x < 24 = ltb-true _ _ (a .0) in
+            hidden there l (rw (first-place, second-place) (hidden-yes p q x l (a .1)))
+            (λ n m o. hidden-no p q n (omega arith) (not-true _ (all-at (λ k. not (hiddenBy b p q k)) x n (c .1) m)) (rw (first-place, second-place) at o))
