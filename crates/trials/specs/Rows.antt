@@ -1,4 +1,4 @@
--- The rows of the table of trial yards, and what each says. docs/RULES.md, "Trial yards".
+-- The rows of the table of trial yards, and what each says. Rule 38.
 use mathlib.Core.Path.{_≡_}
 use mathlib.Core.List.{List, [], _∷_, _++_}
 use mathlib.Core.Bool.{true}

@@ -1,4 +1,4 @@
--- The table of trial yards. docs/RULES.md, "Trial yards": its starred rows in their order, then some of the others.
+-- The table of trial yards, in the order of rule 38.
 use mathlib.Core.List.{List, [], _∷_}
 use Prim.Native.Nat.{ℕ}
 use Rattle.geometry.specs.Words.{point}
