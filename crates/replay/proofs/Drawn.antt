@@ -1,18 +1,24 @@
--- A replay after a start leaves the drawing of its file's book, and a file fixes its edits, its stop and its position.
+-- A replay after a start leaves the drawing of its file's book, and its contract leaves no choice.
 use mathlib.Core.Path.{_≡_, refl, sym, ap, _∙_}
-use mathlib.Core.List.{List}
-use Prim.Native.Nat.{ℕ}
+use mathlib.Core.List.{List, _++_}
+use Prim.Native.Nat.{ℕ, _≤_}
 use native.Mathlib.Omega.{arith}
-use lib.ListN.{length, take}
+use lib.ListN.{length, take, drop, take-append-drop}
 use Rattle.tables.specs.Tables.{Tables}
 use Rattle.book.specs.Book.{Edit, emptyBook, answers, afterAll}
 use Rattle.book.specs.Drawing.{Drawn}
 use Rattle.book.specs.Edits.{Started}
 use Rattle.book.proofs.Demand3.{demand3}
-use Rattle.replay.specs.Replay.{Reads, atEnd, atStop, onward, Replayed}
+use Rattle.book.proofs.Unique.{calls-unique}
+use Rattle.replay.specs.Replay.{stopAt, Reads, atEnd, atStop, onward, EditsCalled, Replayed, tooShort, whole}
+
+pub replayed-whole : {f : List ℕ} {T T′ : Tables} {old ws : List ℕ} {count number at : ℕ} → 4096 ≤ length old
+    → Replayed f T old ws count number at T′ → EditsCalled f T old ws count number at T′
+replayed-whole l (tooShort s) = absurd (omega arith)
+replayed-whole l (whole _ p) = p
 
 pub replay-drawn : (f : List ℕ) (T₀ T T′ : Tables) (old ws : List ℕ) (count number at : ℕ)
-    → Started T₀ 0 T → (p : Replayed f T old ws count number at T′)
+    → Started T₀ 0 T → (p : EditsCalled f T old ws count number at T′)
     → (take count ws ≡ answers emptyBook (p .edits)) × Drawn (afterAll emptyBook (p .edits)) T′
 replay-drawn f T₀ T T′ old ws count number at st p = demand3 T₀ T T′ (p .edits) (take count ws) st (p .calls)
 
@@ -22,7 +28,7 @@ reads-unique (atEnd e) (atEnd e′) = (refl, refl, refl)
 reads-unique (atEnd e) (atStop e′) = let z : _≡_ {A = ℕ} 0 1 = cc in absurd (omega arith)
 reads-unique (atEnd e) (onward e′ q) = let z : _≡_ {A = ℕ} 0 1 = cc in absurd (omega arith)
 reads-unique (atStop e) (atEnd e′) = let z : _≡_ {A = ℕ} 0 1 = cc in absurd (omega arith)
-reads-unique (atStop e) (atStop e′) = (refl, cc, refl)
+reads-unique (atStop {n = n} e) (atStop {n = n′} e′) = let s : n ≡ n′ = cc in (refl, s, rw s)
 reads-unique (atStop e) (onward e′ q) = let z : _≡_ {A = ℕ} 0 1 = cc in absurd (omega arith)
 reads-unique (onward e q) (atEnd e′) = let z : _≡_ {A = ℕ} 0 1 = cc in absurd (omega arith)
 reads-unique (onward e q) (atStop e′) = let z : _≡_ {A = ℕ} 0 1 = cc in absurd (omega arith)
@@ -31,10 +37,22 @@ reads-unique {f = f} (onward {r = i} e q) (onward {r = j} {es = es} e′ q′) =
     let u = reads-unique q (rw s at q′) in
     (rw (s, u .0), u .1, u .2)
 
--- two replays of one file, over any tables, end alike
-pub replayed-unique : (f : List ℕ) (T T′ U U′ : Tables) (old ws old′ ws′ : List ℕ) (count number at count′ number′ at′ : ℕ)
-    → Replayed f T old ws count number at T′ → Replayed f U old′ ws′ count′ number′ at′ U′
-    → (count ≡ count′) × (number ≡ number′) × (at ≡ at′)
-replayed-unique f T T′ U U′ old ws old′ ws′ count number at count′ number′ at′ p q =
+pub called-edits-unique : {f : List ℕ} {T : Tables} {old ws ws′ : List ℕ} {count count′ number number′ at at′ : ℕ} {U U′ : Tables}
+    → EditsCalled f T old ws count number at U → EditsCalled f T old ws′ count′ number′ at′ U′
+    → (count ≡ count′) × (number ≡ number′) × (at ≡ at′) × (ws ≡ ws′) × (U ≡ U′)
+called-edits-unique {T = T} {old} {ws} {ws′} {count} {count′} {U = U} {U′} p q =
     let u = reads-unique (p .reads) (q .reads) in
-    (p .counted ∙ (ap length (u .0) ∙ sym (q .counted)), u .1, u .2)
+    let c : count ≡ count′ = p .counted ∙ (ap length (u .0) ∙ sym (q .counted)) in
+    let v = calls-unique (q .edits) T (take count ws) (take count′ ws′) U U′ (rw (u .0) at (p .calls)) (q .calls) in
+    let rest : drop count ws ≡ drop count′ ws′ = p .kept ∙ (ap (λ (k : ℕ). drop k old) c ∙ sym (q .kept)) in
+    let words : ws ≡ ws′ = sym (take-append-drop count ws) ∙ ((λ i. (v .0) i ++ rest i) ∙ take-append-drop count′ ws′) in
+    (c, u .1, u .2, words, v .1)
+
+-- two replays of one file, over the same tables and the same lent words, end alike and leave the same
+pub replayed-unique : {f : List ℕ} {T : Tables} {old ws ws′ : List ℕ} {count count′ number number′ at at′ : ℕ} {U U′ : Tables}
+    → Replayed f T old ws count number at U → Replayed f T old ws′ count′ number′ at′ U′
+    → (count ≡ count′) × (number ≡ number′) × (at ≡ at′) × (ws ≡ ws′) × (U ≡ U′)
+replayed-unique (tooShort s) (tooShort s′) = (refl, refl, refl, refl, refl)
+replayed-unique (tooShort s) (whole l q) = absurd (omega arith)
+replayed-unique (whole l p) (tooShort s) = absurd (omega arith)
+replayed-unique (whole l p) (whole l′ q) = called-edits-unique p q

@@ -17,7 +17,7 @@ use Rattle.yardfile.specs.declared.Reading.{Reading}
 use Rattle.yardfile.specs.declared.Reading.the-variants.{Found}
 use Rattle.yardfile.specs.File.{readAt, numberOf}
 use Rattle.yardfile.proofs.Reading as R
-use Rattle.replay.specs.Replay.{Reads, onward, Replayed}
+use Rattle.replay.specs.Replay.{Reads, onward, stopAt, EditsCalled}
 use Rattle.fields.specs.Asked.{editOf}
 use Rattle.replay.proofs.Taken.{taken, ended}
 
@@ -39,11 +39,12 @@ going-none f T old =
     record { edits = []; rest = λ es n stop r. r; counted = refl; calls = noCalls; kept = refl; sized = refl; room = omega arith }
 
 module _ (f : List ℕ) (T₀ : Tables) (old answers : List ℕ) (count at : ℕ) (T : Tables) (g : Going f T₀ old answers count at T) where
-  pub going-end : (x : Reading) (n : ℕ) → OneOf (1 ∷ 2 ∷ []) (tagOf R.the-type x) → x ≡ readAt f at → n ≡ numberOf x → Replayed f T₀ old answers count n at T
-  going-end x n h e q =
+  pub going-end : (x : Reading) (n stop : ℕ) → OneOf (1 ∷ 2 ∷ []) (tagOf R.the-type x) → x ≡ readAt f at → n ≡ numberOf x → stop ≡ stopAt n at
+      → EditsCalled f T₀ old answers count n stop T
+  going-end x n stop h e q s =
       record {
         edits = g .edits;
-        reads = rw (q, ← (append-nil (g .edits))) (g .rest [] (numberOf x) at (ended f at x h (sym e)));
+        reads = rw (s, q, ← (append-nil (g .edits))) (g .rest [] (numberOf x) (stopAt (numberOf x) at) (ended f at x h (sym e)));
         counted = g .counted;
         calls = g .calls;
         kept = g .kept;

@@ -1,3 +1,4 @@
 pub mod Taken
 pub mod Going
 pub mod Drawn
+pub mod Numbers

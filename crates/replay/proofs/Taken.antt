@@ -7,7 +7,7 @@ use native.Mathlib.Omega.{arith}
 use lib.Dec.{leb, eqb}
 use lib.ListN.{length}
 use types.Run.{OneOf, miss}
-use borrow.Author.Tests.{leb-true}
+use borrow.Author.Tests.{leb-true, ne-eqb}
 use Rattle.lists.proofs.Every.{both}
 use denote.Enum.Declared.{tagOf}
 use Rattle.yardfile.specs.declared.Item.{Item}
@@ -16,7 +16,7 @@ use Rattle.yardfile.specs.declared.Reading.the-variants.{Found, End, Refused}
 use Rattle.yardfile.specs.File.{byte, headRight, bodySize, kindRight, recordWhole, readAt, numberOf}
 use Rattle.yardfile.proofs.Cases.{head-small, whole-fits, body-block, body-move, body-ends, body-new-ends}
 use Rattle.yardfile.proofs.Reading as R
-use Rattle.replay.specs.Replay.{Reads, atEnd, atStop}
+use Rattle.replay.specs.Replay.{Reads, atEnd, atStop, stopAt}
 use Rattle.apply.specs.inner.Whole.{Whole}
 
 whole-kind : (f : List ℕ) (at : ℕ) → recordWhole f at ≡ true → (1 ≤ byte f at) × (byte f at ≤ 6)
@@ -75,7 +75,21 @@ taken-whole f at i t =
     }
 
 -- the second and the third case of a reading: the list of edits ends
-pub ended : (f : List ℕ) (at : ℕ) (x : Reading) → OneOf (1 ∷ 2 ∷ []) (tagOf R.the-type x) → readAt f at ≡ x → Reads f at [] (numberOf x) at
+pub ended : (f : List ℕ) (at : ℕ) (x : Reading) → OneOf (1 ∷ 2 ∷ []) (tagOf R.the-type x) → readAt f at ≡ x
+    → Reads f at [] (numberOf x) (stopAt (numberOf x) at)
+unfolding stopAt
 ended f at (Found i) h e = absurd (miss (1 ∷ 2 ∷ []) 0 tt h)
 ended f at End h e = atEnd e
 ended f at (Refused n) h e = atStop e
+
+stop-nine : (at : ℕ) → 0 ≡ stopAt 9 at
+unfolding stopAt
+stop-nine at = refl
+
+-- the two ways out of the code
+pub stop-none : (n at : ℕ) → n ≡ 9 → 0 ≡ stopAt n at
+stop-none n at e = rw e (stop-nine at)
+
+pub stop-there : (n at : ℕ) → (n ≡ 9 → ⊥) → at ≡ stopAt n at
+unfolding stopAt
+stop-there n at h = rw (ne-eqb n 9 h)

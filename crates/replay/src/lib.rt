@@ -4,7 +4,7 @@ ghost use Prim.Native.Nat.{_≤_};
 ghost use lib.ListN.{length};
 ghost use Rattle.tables.specs.Tables.{tables};
 ghost use Rattle.yardfile.specs.File.{numberOf};
-ghost use Rattle.replay.specs.Replay.{Replayed};
+ghost use Rattle.replay.specs.Replay.{stopAt, EditsCalled, Replayed};
 use apply::apply;
 use yardfile::Reading;
 use yardfile::read_from;
@@ -27,8 +27,18 @@ fn number_of(reading: Reading) -> u32
     }
 }
 
+// The position that a stop with this number names.
+fn stop_position(number: u32, at: usize) -> usize
+    ensures { λ r. ⌜ r ≡ stopAt number at ⌝ }
+{
+    if number == 9 {
+        return 0;
+    }
+    at
+}
+
 // Calls the edits of a yard file in order, up to its end or its stop, and stores their answers.
-pub fn replay(
+fn call_edits(
     file: &[u8],
     blocks: &mut [u16],
     runs: &mut [u16],
@@ -37,7 +47,7 @@ pub fn replay(
     answers: &mut [u32],
 ) -> Outcome
     requires { ⌜ 4096 ≤ length (now answers) ⌝ }
-    ensures { λ r. ⌜ Replayed (now (file .entry))
+    ensures { λ r. ⌜ EditsCalled (now (file .entry))
         (tables (now (blocks .entry)) (now (runs .entry)) (now (pairs .entry)) (now (routes .entry)))
         (now (answers .entry)) (now (answers .exit)) (r .count) (r .number) (r .at)
         (tables (now (blocks .exit)) (now (runs .exit)) (now (pairs .exit)) (now (routes .exit))) ⌝ }
@@ -47,14 +57,39 @@ pub fn replay(
     loop {
         let reading = read_from(file, at);
         let Reading::Found(item) = reading else {
+            let number = number_of(reading);
             return Outcome {
                 count,
-                number: number_of(reading),
-                at,
+                number,
+                at: stop_position(number, at),
             };
         };
         answers[count] = apply(file, item, blocks, runs, pairs, routes);
         count += 1;
         at = item.next;
     }
+}
+
+// Calls the edits of a yard file where 4,096 answers can be stored: a file has at most 4,093 records.
+pub fn replay(
+    file: &[u8],
+    blocks: &mut [u16],
+    runs: &mut [u16],
+    pairs: &mut [u8],
+    routes: &mut [u32],
+    answers: &mut [u32],
+) -> Outcome
+    ensures { λ r. ⌜ Replayed (now (file .entry))
+        (tables (now (blocks .entry)) (now (runs .entry)) (now (pairs .entry)) (now (routes .entry)))
+        (now (answers .entry)) (now (answers .exit)) (r .count) (r .number) (r .at)
+        (tables (now (blocks .exit)) (now (runs .exit)) (now (pairs .exit)) (now (routes .exit))) ⌝ }
+{
+    if answers.len() < 4096 {
+        return Outcome {
+            count: 0,
+            number: 1,
+            at: 0,
+        };
+    }
+    call_edits(file, blocks, runs, pairs, routes, answers)
 }

@@ -8,6 +8,7 @@ ghost use Rattle.book.specs.Book.{addBlock, removeBlock, moveBlock, addRun, rem
 ghost use Rattle.book.specs.Edits.{Started, Called, Checked};
 ghost use Rattle.ducts.specs.Quote.{DuctQuoted};
 ghost use Rattle.yard_abi.specs.Reading.{ReadInto};
+ghost use Rattle.yard_abi.specs.Replaying.{ReplayedInto};
 use geometry::Place;
 use yardfile::Reading;
 
@@ -184,6 +185,42 @@ pub extern "C" fn yard_read(file: &[u8], at: usize, item: &mut [u64]) -> u32
         }
         Reading::Refused(number) => number,
     }
+}
+
+// Two words into a lent list.
+fn put_end(end: &mut [u64], count: u64, at: u64)
+    requires { ⌜ length (now end) ≡ 2 ⌝ }
+    ensures { λ r. ⌜ now (end .exit) ≡ count ∷ at ∷ [] ⌝ }
+{
+    end[0] = count;
+    end[1] = at;
+}
+
+// The edits of a yard file, called in order up to its end or its stop; their answers, and two words: how many they are, and the position there.
+#[no_mangle]
+pub extern "C" fn yard_replay(
+    blocks: &mut [u16],
+    runs: &mut [u16],
+    pairs: &mut [u8],
+    routes: &mut [u32],
+    file: &[u8],
+    answers: &mut [u32],
+    end: &mut [u64],
+) -> u32
+    ensures { λ r. ⌜ ReplayedInto (now (file .entry))
+        (tables (now (blocks .entry)) (now (runs .entry)) (now (pairs .entry)) (now (routes .entry)))
+        (now (answers .entry)) (now (end .entry)) r (now (answers .exit)) (now (end .exit))
+        (tables (now (blocks .exit)) (now (runs .exit)) (now (pairs .exit)) (now (routes .exit))) ⌝ }
+{
+    if end.len() != 2 {
+        return 1;
+    }
+    let outcome = replay::replay(file, blocks, runs, pairs, routes, answers);
+    if outcome.number == 1 {
+        return 1;
+    }
+    put_end(end, outcome.count as u64, outcome.at as u64);
+    outcome.number
 }
 
 #[no_mangle]
