@@ -37,5 +37,9 @@ extern "C" {
         b: *const u16, bl: usize, r: *const u16, rl: usize, run: u32,
         quote: *mut u32, quote_len: usize, crossings: *mut u16, crossings_len: usize,
     ) -> u32;
+    pub fn yard_replay(
+        b: *mut u16, bl: usize, r: *mut u16, rl: usize, p: *mut u8, pl: usize, w: *mut u32, wl: usize,
+        file: *const u8, file_len: usize, answers: *mut u32, answers_len: usize, end: *mut u64, end_len: usize,
+    ) -> u32;
     pub fn yard_read(file: *const u8, file_len: usize, at: usize, item: *mut u64, item_len: usize) -> u32;
 }
