@@ -1,21 +1,17 @@
-/* A yard with one block and one run, over the library's C interface. */
+/* Yards over the library's C interface: one that is edited call by call, and one that a yard file describes. */
 #include <inttypes.h>
 #include <stdio.h>
 
 #include "yard.h"
 
-static uint16_t blocks[YARD_BLOCKS_LEN];
-static uint16_t runs[YARD_RUNS_LEN];
-static uint8_t pairs[YARD_PAIRS_LEN];
-static uint32_t routes[YARD_ROUTES_LEN];
+#define LENGTH(list) (sizeof(list) / sizeof(list)[0])
 
-/* The four tables as every call takes them. */
-#define TABLES blocks, YARD_BLOCKS_LEN, runs, YARD_RUNS_LEN, pairs, YARD_PAIRS_LEN, routes, YARD_ROUTES_LEN
+static struct yard yard;
 
 static void answer(const char *call, uint32_t number) { printf("%s: answer %" PRIu32 "\n", call, number); }
 
 static void print_route(unsigned m) {
-    const uint32_t *route = routes + YARD_ROUTE_WORDS * m;
+    const uint32_t *route = yard.routes + YARD_ROUTE_WORDS * m;
     if (route[0] == YARD_ROUTE_NO_WAY) {
         printf("run %u no way\n", m);
     } else if (route[0] == YARD_ROUTE_FOUND) {
@@ -25,33 +21,84 @@ static void print_route(unsigned m) {
     }
 }
 
-int main(void) {
+static void edit_by_calls(void) {
     static const uint16_t square[] = {10, 10, 20, 10, 20, 20, 10, 20};
     static const uint16_t star[] = {10, 0, 16, 20, 0, 8, 20, 8, 4, 20};
 
-    answer("start", yard_start(TABLES));
-    answer("add block 0", yard_add_block(TABLES, 0, square, sizeof square / sizeof square[0]));
-    answer("add run 0", yard_add_run(TABLES, 0, 0, 15, 30, 15));
+    answer("start", yard_start(YARD_TABLES(&yard)));
+    answer("add block 0", yard_add_block(YARD_TABLES(&yard), 0, square, LENGTH(square)));
+    answer("add run 0", yard_add_run(YARD_TABLES(&yard), 0, 0, 15, 30, 15));
     print_route(0);
 
-    answer("move block 0 north by 3", yard_move_block(TABLES, 0, 0, 3));
+    answer("move block 0 north by 3", yard_move_block(YARD_TABLES(&yard), 0, 0, 3));
     print_route(0);
 
     /* Refused calls change nothing. */
-    answer("move block 0 west by 11", yard_move_block(TABLES, 0, -11, 0));
-    answer("add block 0 again", yard_add_block(TABLES, 0, square, sizeof square / sizeof square[0]));
-    answer("add block 1, a star", yard_add_block(TABLES, 1, star, sizeof star / sizeof star[0]));
-    answer("remove run 24", yard_remove_run(TABLES, 24));
+    answer("move block 0 west by 11", yard_move_block(YARD_TABLES(&yard), 0, -11, 0));
+    answer("add block 0 again", yard_add_block(YARD_TABLES(&yard), 0, square, LENGTH(square)));
+    answer("add block 1, a star", yard_add_block(YARD_TABLES(&yard), 1, star, LENGTH(star)));
+    answer("add block 1, no corners", yard_add_block(YARD_TABLES(&yard), 1, NULL, 0));
+    answer("remove run 24", yard_remove_run(YARD_TABLES(&yard), 24));
     print_route(0);
 
-    answer("move run 0 to start inside the block", yard_move_run(TABLES, 0, 15, 18, 30, 15));
+    answer("move run 0 to start inside the block", yard_move_run(YARD_TABLES(&yard), 0, 15, 18, 30, 15));
     print_route(0);
-    answer("remove block 0", yard_remove_block(TABLES, 0));
+    answer("remove block 0", yard_remove_block(YARD_TABLES(&yard), 0));
     print_route(0);
-    answer("check", yard_check(TABLES));
-    pairs[0] = 0;
-    answer("check after a byte was changed", yard_check(TABLES));
-    answer("check with a short table", yard_check(blocks, YARD_BLOCKS_LEN - 1, runs, YARD_RUNS_LEN, pairs,
-                                                  YARD_PAIRS_LEN, routes, YARD_ROUTES_LEN));
+    answer("check", yard_check(YARD_TABLES(&yard)));
+    yard.pairs[0] = 0;
+    answer("check after a byte was changed", yard_check(YARD_TABLES(&yard)));
+    answer("check with a short table", yard_check(yard.blocks, YARD_BLOCKS_LEN - 1, yard.runs, YARD_RUNS_LEN,
+                                                  yard.pairs, YARD_PAIRS_LEN, yard.routes, YARD_ROUTES_LEN));
+}
+
+static const uint8_t file[] = {
+    'Y', 'R', 'D', 1, 0,                                           /* a yard file, version 1 */
+    1, 0, 4, 10, 0, 6, 0, 14, 0, 7, 0, 14, 0, 40, 0, 10, 0, 40, 0, /* add block 0, 4 corners */
+    4, 0, 0, 0, 10, 0, 27, 0, 13, 0,                               /* add run 0 */
+    2, 7,                                                          /* remove block 7, which is not there */
+    1, 1, 3, 11, 0, 1, 0, 13, 0, 1, 0, 12, 0, 5, 0,                /* add block 1, 3 corners */
+};
+
+/* Each record of the file, from position 5 to its end. */
+static void print_records(void) {
+    uint64_t item[YARD_ITEM_LEN];
+    size_t at = 5;
+    while (yard_read(file, sizeof file, at, item, YARD_ITEM_LEN) == YARD_DONE && item[0] != 0) {
+        printf("at %zu kind %" PRIu64 " number %" PRIu64 " fields at %" PRIu64 "\n", at, item[0], item[1], item[2]);
+        at = (size_t)item[3];
+    }
+    printf("at %zu the end\n", at);
+}
+
+static void replay(const char *what, const uint8_t *bytes, size_t len) {
+    static uint32_t answers[YARD_ANSWERS_LEN];
+    uint64_t end[YARD_END_LEN];
+
+    yard_start(YARD_TABLES(&yard));
+    answer(what, yard_replay(YARD_TABLES(&yard), bytes, len, answers, YARD_ANSWERS_LEN, end, YARD_END_LEN));
+    printf("%" PRIu64 " edits, up to position %" PRIu64 "\n", end[0], end[1]);
+    for (uint64_t k = 0; k < end[0]; k++) printf("edit %" PRIu64 " answer %" PRIu32 "\n", k + 1, answers[k]);
+    print_route(0);
+}
+
+static void print_duct(void) {
+    static uint16_t crossings[YARD_DUCT_CROSSINGS_LEN];
+    uint32_t quote[YARD_DUCT_QUOTE_LEN];
+
+    answer("duct of run 0", yard_quote_duct(YARD_RECORDS(&yard), 0, quote, YARD_DUCT_QUOTE_LEN, crossings,
+                                            YARD_DUCT_CROSSINGS_LEN));
+    printf("cost %" PRIu32 " crossings", quote[1]);
+    for (uint32_t k = 0; k < quote[2]; k++) printf(" (%u,%u)", crossings[2 * k], crossings[2 * k + 1]);
+    printf("\n");
+}
+
+int main(void) {
+    edit_by_calls();
+    print_records();
+    replay("replay the file", file, sizeof file);
+    print_duct();
+    replay("replay it with its last byte cut off", file, sizeof file - 1);
+    replay("replay no file", NULL, 0);
     return 0;
 }

@@ -1,16 +1,23 @@
 /*
  * The yard planner: blocks to keep clear of, and shortest conduit runs around them.
  *
- * The caller owns four tables and lends them to every call, each as a pointer and a length in elements; a quote is
- * lent blocks and runs alone, and lists of its own. The lengths must be exactly those below. Tables and lists must not
- * overlap, and must be aligned for their element type. Together the tables take 48,648 bytes. A call keeps nothing:
- * there is no hidden state, no heap and no I/O. Calls on different tables may run at the same time; calls on the same
- * tables must not, except those that take them const beside each other. A call uses about 4 KiB of stack (3,944 bytes
- * at most where it was measured, on x86-64): reserve 8 KiB. Only yard_quote_duct takes more, about 19 KB.
+ * The archive is for x86-64 and its System V calling convention (Linux). It calls memcpy and memset and nothing else.
+ *
+ * The caller owns four tables, best in a struct yard, and lends them to every call but yard_read, each as a pointer and
+ * a length in elements; a quote is lent blocks and runs alone. The lengths must be exactly those below. Together the
+ * tables take 48,648 bytes. No table or list that a call is lent may overlap another, be it corners, a file, an item,
+ * answers, an end or a quote. Every pointer must be valid for its length and aligned for its element type; NULL is
+ * allowed with length 0 alone, and is then an empty list.
+ *
+ * A call keeps nothing: there is no hidden state, no heap and no I/O. Calls on different tables may run at the same
+ * time; calls on the same tables must not, except those that take them const beside each other. A call uses about 4 KiB
+ * of stack (3,944 bytes at most where it was measured, on x86-64) and yard_replay about 6 KiB (6,088 bytes): reserve
+ * 8 KiB. Only yard_quote_duct takes more, about 19 KB.
  *
  * East is the first coordinate, north the second, from 0 to 32,767; lengths are in centimetres.
  *
- * A refused call (any answer but 0) changes nothing in any table or list.
+ * A refused call (any answer but 0) changes nothing in any table or list. Only a yard_replay that answers 9 or 10 has
+ * done something: see there.
  */
 #ifndef YARD_H
 #define YARD_H
@@ -44,6 +51,21 @@ extern "C" {
  */
 #define YARD_ROUTES_LEN 4728
 
+/* The four tables in one piece. */
+struct yard {
+    uint16_t blocks[YARD_BLOCKS_LEN];
+    uint16_t runs[YARD_RUNS_LEN];
+    uint8_t pairs[YARD_PAIRS_LEN];
+    uint32_t routes[YARD_ROUTES_LEN];
+};
+
+/*
+ * The tables of a struct yard, const or not, as the calls take them: yard_remove_block(YARD_TABLES(&yard), 3) and
+ * yard_quote_duct(YARD_RECORDS(&yard), 3, ..). The argument is a pointer, and is written out several times.
+ */
+#define YARD_RECORDS(yard) (yard)->blocks, YARD_BLOCKS_LEN, (yard)->runs, YARD_RUNS_LEN
+#define YARD_TABLES(yard) YARD_RECORDS(yard), (yard)->pairs, YARD_PAIRS_LEN, (yard)->routes, YARD_ROUTES_LEN
+
 #define YARD_BLOCK_WORDS 17
 #define YARD_RUN_WORDS 5
 #define YARD_ROUTE_WORDS 197
@@ -54,7 +76,7 @@ extern "C" {
 
 /* Answers. The questions are asked in this order, and the first that fails is the answer. */
 #define YARD_DONE 0             /* done; of yard_check: pairs and routes are right */
-#define YARD_WRONG_LENGTH 1     /* a table or list is not exactly as long as stated */
+#define YARD_WRONG_LENGTH 1     /* a table or list is not as long as stated */
 #define YARD_WRONG_RECORD 2     /* a stored block or run is not one that these calls write */
 #define YARD_WRONG_NUMBER 3     /* the number is not below 24 */
 #define YARD_NOT_FREE 4         /* adding: the number is taken */
@@ -62,8 +84,8 @@ extern "C" {
 #define YARD_WRONG_COUNT 6      /* adding a block: not 3 to 8 whole corners */
 #define YARD_WRONG_COORDINATE 7 /* a new or moved coordinate is not from 0 to 32,767 */
 #define YARD_NOT_CONVEX 8       /* adding a block: some corner is not strictly left of every side that it is not on */
-#define YARD_NOT_A_FILE 9       /* yard_read: not 5 to 8,192 bytes, the letters YRD and version 1 */
-#define YARD_NOT_A_RECORD 10    /* yard_read: the position is outside the file, the kind unknown or the record cut off */
+#define YARD_NOT_A_FILE 9       /* yard_read, yard_replay: not 5 to 8,192 bytes, the letters YRD and version 1 */
+#define YARD_NOT_A_RECORD 10    /* yard_read, yard_replay: outside the file, the kind unknown or the record cut off */
 #define YARD_NOT_DRAWN 11       /* yard_check: a byte of pairs or routes is not what blocks and runs require */
 #define YARD_TOO_MANY_BLOCKS 12 /* yard_quote_duct: more than 8 blocks stand */
 
@@ -134,6 +156,23 @@ uint32_t yard_quote_duct(const uint16_t *blocks, size_t blocks_len, const uint16
 #define YARD_ITEM_LEN 4
 
 uint32_t yard_read(const uint8_t *file, size_t file_len, size_t at, uint64_t *item, size_t item_len);
+
+/*
+ * yard_replay calls the edits of a yard file in order, on the tables as they are. answers has at least YARD_ANSWERS_LEN
+ * words: the answer of each edit is put there, from the first word on, and the words after them are kept; no file has
+ * more than 4,093 records. A refused edit does not stop it; where the tables are not as long as stated, each edit
+ * answers 1. end has exactly YARD_END_LEN words: how many edits were called, and a position.
+ *
+ * Answers 0 where the file was replayed to its end, which is the position; 10 at a record that cannot be read, whose
+ * position it is: the edits before it stand; 9 where the file is none: no edit was called, and the position is 0. It
+ * answers 1, and changes nothing, end neither, if answers is shorter or end has another length.
+ */
+#define YARD_ANSWERS_LEN 4096
+#define YARD_END_LEN 2
+
+uint32_t yard_replay(uint16_t *blocks, size_t blocks_len, uint16_t *runs, size_t runs_len, uint8_t *pairs,
+                     size_t pairs_len, uint32_t *routes, size_t routes_len, const uint8_t *file, size_t file_len,
+                     uint32_t *answers, size_t answers_len, uint64_t *end, size_t end_len);
 
 #ifdef __cplusplus
 }
