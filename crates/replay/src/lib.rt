@@ -64,7 +64,8 @@ fn call_edits(
                 at: stop_position(number, at),
             };
         };
-        answers[count] = apply(file, item, blocks, runs, pairs, routes);
+        let answer = apply(file, item, blocks, runs, pairs, routes);
+        answers[count] = answer;
         count += 1;
         at = item.next;
     }
