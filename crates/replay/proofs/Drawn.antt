@@ -43,7 +43,7 @@ pub called-edits-unique : {f : List ℕ} {T : Tables} {old ws ws′ : List ℕ} 
 called-edits-unique {T = T} {old} {ws} {ws′} {count} {count′} {U = U} {U′} p q =
     let u = reads-unique (p .reads) (q .reads) in
     let c : count ≡ count′ = p .counted ∙ (ap length (u .0) ∙ sym (q .counted)) in
-    let v = calls-unique (q .edits) T (take count ws) (take count′ ws′) U U′ (rw (u .0) at (p .calls)) (q .calls) in
+    let v = calls-unique (rw (u .0) at (p .calls)) (q .calls) in
     let rest : drop count ws ≡ drop count′ ws′ = p .kept ∙ (ap (λ (k : ℕ). drop k old) c ∙ sym (q .kept)) in
     let words : ws ≡ ws′ = sym (take-append-drop count ws) ∙ ((λ i. (v .0) i ++ rest i) ∙ take-append-drop count′ ws′) in
     (c, u .1, u .2, words, v .1)

@@ -1,4 +1,4 @@
--- The edits of a yard file, up to its end or its stop, and what applying them leaves. docs/RULES.md, "Yard file" and "Listing".
+-- The edits of a yard file, up to its end or its stop, and what applying them leaves. Rule 31.
 use mathlib.Core.Path.{_≡_}
 use mathlib.Core.List.{List, [], _∷_}
 use mathlib.Core.Bool.{cond}

@@ -1,4 +1,4 @@
--- What the exported read answers and leaves: numbers and words, where the reader under it answers an enum.
+-- What the exported read answers and leaves: numbers and words, where the reader under it answers an enum. Rule 30.
 use mathlib.Core.Path.{_≡_}
 use mathlib.Core.List.{List, [], _∷_}
 use Prim.Native.Nat.{ℕ}

@@ -1,4 +1,4 @@
--- What the exported replay answers and leaves: the outcome of the replay under it as a number and two lent words.
+-- What the exported replay answers and leaves: the outcome of the replay under it as a number and two lent words. Rule 31.
 use mathlib.Core.Path.{_≡_}
 use mathlib.Core.List.{List, [], _∷_}
 use Prim.Native.Nat.{ℕ, _≤_}
