@@ -159,13 +159,14 @@ uint32_t yard_read(const uint8_t *file, size_t file_len, size_t at, uint64_t *it
 
 /*
  * yard_replay calls the edits of a yard file in order, on the tables as they are. answers has at least YARD_ANSWERS_LEN
- * words: the answer of each edit is put there, from the first word on, and the words after them are kept; no file has
- * more than 4,093 records. A refused edit does not stop it; where the tables are not as long as stated, each edit
- * answers 1. end has exactly YARD_END_LEN words: how many edits were called, and a position.
+ * words, since a file has up to 4,093 records: the answer of each edit is put there, from the first word on, and the
+ * words after them are kept. A refused edit does not stop it; where the tables are not as long as stated, each edit
+ * answers 1. end has exactly YARD_END_LEN words: how many edits were called, and the position where the file ended or
+ * stopped.
  *
- * Answers 0 where the file was replayed to its end, which is the position; 10 at a record that cannot be read, whose
- * position it is: the edits before it stand; 9 where the file is none: no edit was called, and the position is 0. It
- * answers 1, and changes nothing, end neither, if answers is shorter or end has another length.
+ * Answers 0 at the end of the file; 10 at a record that cannot be read, and the edits before it stand; 9 where it is no
+ * yard file, and then no edit is called and the position is 0. Answers 1 if answers is shorter or end has another
+ * length; then nothing is changed, end neither.
  */
 #define YARD_ANSWERS_LEN 4096
 #define YARD_END_LEN 2

@@ -10,13 +10,15 @@ use Rattle.book.specs.Drawing.{Drawn}
 use Rattle.book.specs.Edits.{Started}
 use Rattle.book.proofs.Demand3.{demand3}
 use Rattle.book.proofs.Unique.{calls-unique}
-use Rattle.replay.specs.Replay.{stopAt, Reads, atEnd, atStop, onward, EditsCalled, Replayed, tooShort, whole}
+use Rattle.replay.specs.Replay.{Reads, atEnd, atStop, onward, EditsCalled, Replayed, tooShort, whole}
 
+-- where enough words are lent, the file's edits are called
 pub replayed-whole : {f : List ℕ} {T T′ : Tables} {old ws : List ℕ} {count number at : ℕ} → 4096 ≤ length old
     → Replayed f T old ws count number at T′ → EditsCalled f T old ws count number at T′
 replayed-whole l (tooShort s) = absurd (omega arith)
 replayed-whole l (whole _ p) = p
 
+-- and over a started yard answers and tables are those of their book
 pub replay-drawn : (f : List ℕ) (T₀ T T′ : Tables) (old ws : List ℕ) (count number at : ℕ)
     → Started T₀ 0 T → (p : EditsCalled f T old ws count number at T′)
     → (take count ws ≡ answers emptyBook (p .edits)) × Drawn (afterAll emptyBook (p .edits)) T′

@@ -10,6 +10,7 @@ use yardfile::Reading;
 use yardfile::read_from;
 
 // How a replay ended: how many edits were called, the number of the stop, 0 at the file's end, and the position there.
+// 1 where fewer than 4,096 words are lent for the answers.
 pub struct Outcome {
     pub count: usize,
     pub number: u32,
@@ -71,7 +72,7 @@ fn call_edits(
     }
 }
 
-// Calls the edits of a yard file where 4,096 answers can be stored: a file has at most 4,093 records.
+// Replays a yard file where 4,096 answers can be stored: a file has at most 4,093 records.
 pub fn replay(
     file: &[u8],
     blocks: &mut [u16],

@@ -4,7 +4,6 @@ use mathlib.Core.List.{List}
 use Prim.Native.Nat.{ℕ}
 use native.Mathlib.Omega.{arith}
 use Rattle.tables.specs.Tables.{Tables}
-use Rattle.yardfile.specs.declared.Item.{Item}
 use Rattle.replay.proofs.Drawn.{called-edits-unique}
 use Rattle.yard_abi.specs.Reading.{ReadInto, wrongLength, aRecord, theEnd, refusal}
 use Rattle.yard_abi.specs.Replaying.{ReplayedInto, wrongLengths, theReplay}
