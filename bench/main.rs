@@ -1,7 +1,7 @@
 //! The benchmark: a drag step of the proved planner beside a plain one of the same algorithm, one that draws
 //! everything from nothing, and Graphviz's, over several yards; and the duct quote.
 
-#[path = "../tests/yard/abi.rs"]
+#[path = "../bindings/abi.rs"]
 #[allow(dead_code)]
 mod abi;
 mod ducts;

@@ -1,23 +1,10 @@
 //! Lists the ducts of a yard file's runs: the cost, the two ends, and each crossing where the duct changes direction.
 
-#[path = "../tests/yard/abi.rs"]
-#[allow(dead_code)]
-mod abi;
-#[path = "../tests/yard/linked.rs"]
-#[allow(dead_code)]
-mod linked;
-#[path = "../tests/files/reader.rs"]
-mod reader;
-#[path = "../tests/yard/tables.rs"]
-#[allow(dead_code)]
-mod tables;
-#[allow(dead_code)]
 mod yards;
 
 use std::path::Path;
 use std::process::ExitCode;
-use tables::Tables;
-use yards::{Duct, Place, Way};
+use yards::{Duct, Place, Tables, Way};
 
 fn way_lines(run: u32, way: &Way) -> String {
     let turns = way.turns();
@@ -49,17 +36,8 @@ fn main() -> ExitCode {
     let words: Vec<std::ffi::OsString> = std::env::args_os().skip(1).collect();
     let number = words.get(1).map(|w| w.to_str().and_then(|w| w.parse::<u32>().ok()));
     if words.is_empty() || words.len() > 2 || number == Some(None) {
-        eprintln!("usage: yardduct FILE [RUN]");
-        return ExitCode::from(2);
+        return yards::misused("usage: yardduct FILE [RUN]");
     }
-    match yards::bytes("yardduct", Path::new(&words[0])) {
-        Ok(file) => {
-            print!("{}", listing(&file, number.flatten()));
-            ExitCode::SUCCESS
-        }
-        Err(why) => {
-            eprintln!("{why}");
-            ExitCode::FAILURE
-        }
-    }
+    let file = yards::bytes(Path::new(&words[0]));
+    yards::printed("yardduct", file.map(|file| listing(&file, number.flatten())))
 }

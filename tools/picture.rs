@@ -1,27 +1,16 @@
 //! Draws a yard file as an SVG of one A4 page: blocks with their numbers, and runs with their routes and lengths or the
 //! duct of one run with its cost.
 
-#[path = "../tests/yard/abi.rs"]
-#[allow(dead_code)]
-mod abi;
 mod drawing;
 mod duct_drawing;
 mod labels;
-#[path = "../tests/yard/linked.rs"]
-#[allow(dead_code)]
-mod linked;
 mod plane;
-#[path = "../tests/files/reader.rs"]
-mod reader;
-#[path = "../tests/yard/tables.rs"]
-#[allow(dead_code)]
-mod tables;
 mod yards;
 
 use std::ffi::OsStr;
 use std::path::Path;
 use std::process::ExitCode;
-use yards::{Place, Replayed};
+use yards::{Place, Replayed, Stop};
 
 /// A yard after the edits of a file, as it is drawn.
 pub struct Yard {
@@ -29,7 +18,7 @@ pub struct Yard {
     pub runs: Vec<Run>,
     pub edits: usize,
     pub refused: usize,
-    pub stop: Option<reader::Stop>,
+    pub stop: Option<Stop>,
 }
 
 pub struct Run {
@@ -37,6 +26,12 @@ pub struct Run {
     /// The places of the route's marks and its length; the two ends alone if there is no way.
     pub places: Vec<Place>,
     pub length: Option<u32>,
+}
+
+impl Run {
+    pub fn ends(&self) -> [Place; 2] {
+        [self.places[0], self.places[self.places.len() - 1]]
+    }
 }
 
 fn drawn(yard: &Replayed) -> Yard {
@@ -69,7 +64,7 @@ fn drawn(yard: &Replayed) -> Yard {
 
 /// The picture of a file, with the duct of one run if that is wanted.
 fn picture(path: &Path, run: Option<u32>) -> Result<String, String> {
-    let yard = yards::replayed(&yards::bytes("yardpicture", path)?);
+    let yard = yards::replayed(&yards::bytes(path)?);
     let name = path.file_name().unwrap_or(path.as_os_str()).to_string_lossy();
     Ok(match run {
         None => drawing::svg(&name, &drawn(&yard)),
@@ -87,17 +82,7 @@ fn main() -> ExitCode {
         _ => None,
     };
     let Some((path, run)) = wanted else {
-        eprintln!("usage: yardpicture [--duct RUN] FILE > yard.svg");
-        return ExitCode::from(2);
+        return yards::misused("usage: yardpicture [--duct RUN] FILE > yard.svg");
     };
-    match picture(Path::new(path), run) {
-        Ok(svg) => {
-            print!("{svg}");
-            ExitCode::SUCCESS
-        }
-        Err(why) => {
-            eprintln!("{why}");
-            ExitCode::FAILURE
-        }
-    }
+    yards::printed("yardpicture", picture(Path::new(path), run))
 }

@@ -1,13 +1,32 @@
-//! The yard of a file and the ducts of its runs: edits and quotes go through the proved planner, from the static
-//! library `yard_abi`.
+//! What the commands share: the yard that a file leaves, the ducts of its runs, and the printing of the result. Files are
+//! replayed and ducts quoted by the proved planner, from the static library `yard_abi`.
 
-use crate::linked::{quote_duct, Linked};
-use crate::reader::{self, Stop};
-use crate::tables::{Planner, Tables};
+#[path = "../bindings/abi.rs"]
+#[allow(dead_code)]
+mod abi;
+#[path = "../bindings/linked.rs"]
+#[allow(dead_code)]
+mod linked;
+#[path = "../bindings/tables.rs"]
+#[allow(dead_code)]
+mod tables;
+
+use linked::{quote_duct, replay, Linked};
+use std::io::{ErrorKind, Write};
 use std::path::Path;
+use std::process::ExitCode;
+use tables::Planner;
+pub use tables::Tables;
 
 /// East and north, in centimetres.
 pub type Place = (u16, u16);
+
+/// Where reading stopped short of the file's end: 9 or 10, and the position of the record, 0 for 9.
+#[derive(Clone, Copy)]
+pub struct Stop {
+    pub number: u32,
+    pub at: u64,
+}
 
 /// What the edits of a file left.
 pub struct Replayed {
@@ -18,16 +37,47 @@ pub struct Replayed {
 }
 
 pub fn replayed(file: &[u8]) -> Replayed {
-    let (edits, stop) = reader::read(file);
     let mut tables = Tables::unstarted();
     Linked.start(&mut tables);
-    let refused = edits.iter().filter(|e| Linked.edit(&mut tables, e) != 0).count();
-    Replayed { tables, edits: edits.len(), refused, stop }
+    let (mut answers, mut end) = (vec![0; 4096], [0; 2]);
+    let number = replay(&mut tables, file, &mut answers, &mut end);
+    let [edits, at] = end;
+    let answers = &answers[..edits as usize];
+    let refused = answers.iter().filter(|&&answer| answer != 0).count();
+    Replayed { tables, edits: answers.len(), refused, stop: (number != 0).then_some(Stop { number, at }) }
 }
 
 /// The bytes of a file, or why it cannot be read.
-pub fn bytes(command: &str, path: &Path) -> Result<Vec<u8>, String> {
-    std::fs::read(path).map_err(|e| format!("{command}: cannot read the file '{}': {e}", path.display()))
+pub fn bytes(path: &Path) -> Result<Vec<u8>, String> {
+    std::fs::read(path).map_err(|e| format!("cannot read the file '{}': {e}", path.display()))
+}
+
+/// Prints what a command made, or one line that says why there is nothing. A reader who closes the pipe has read enough.
+pub fn printed(command: &str, made: Result<String, String>) -> ExitCode {
+    let written = made.and_then(|text| {
+        let mut out = std::io::stdout();
+        match out.write_all(text.as_bytes()).and_then(|()| out.flush()) {
+            Err(e) if e.kind() != ErrorKind::BrokenPipe => Err(format!("cannot write the output: {e}")),
+            _ => Ok(()),
+        }
+    });
+    match written {
+        Ok(()) => ExitCode::SUCCESS,
+        Err(why) => {
+            said(&format!("{command}: {why}"));
+            ExitCode::FAILURE
+        }
+    }
+}
+
+pub fn misused(usage: &str) -> ExitCode {
+    said(usage);
+    ExitCode::from(2)
+}
+
+/// One line on the error stream, lost where that cannot be written either.
+fn said(line: &str) {
+    let _ = writeln!(std::io::stderr(), "{line}");
 }
 
 /// What the quote of a duct says.

@@ -13,7 +13,7 @@ mod reader;
 #[path = "../yard/reference.rs"]
 #[allow(dead_code)]
 mod reference;
-#[path = "../yard/tables.rs"]
+#[path = "../../bindings/tables.rs"]
 #[allow(dead_code)]
 mod tables;
 

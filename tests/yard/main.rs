@@ -1,12 +1,14 @@
-//! Tests of the yard planner: the rows of document 01, and random yards against a second planner.
+//! Tests of the yard planner: the rows of docs/RULES.md, and random yards against a second planner.
 
 #[cfg(not(plain))]
+#[path = "../../bindings/abi.rs"]
 mod abi;
 mod duct_router;
 mod duct_yards;
 #[cfg(not(plain))]
 mod ducts;
 #[cfg(not(plain))]
+#[path = "../../bindings/linked.rs"]
 mod linked;
 #[cfg(plain)]
 mod plain_planner;
@@ -15,6 +17,7 @@ mod random;
 mod reading;
 mod rectangles;
 mod reference;
+#[path = "../../bindings/tables.rs"]
 mod tables;
 mod trials;
 

@@ -1,4 +1,4 @@
-//! The rows of document 01: "Trial yards", the listed yard, and "Shortcuts that cost a trench".
+//! The rows of docs/RULES.md: "Trial yards", the listed yard, and "Shortcuts that cost a trench".
 
 use crate::tables::{Edit, Planner, Tables};
 use crate::{same_answer, started, Report};

@@ -1,4 +1,4 @@
-//! The four tables, the edits, and the two kinds of planner that are tested.
+//! The four tables, the edits, and what a planner does with them.
 
 pub const BLOCKS: usize = 408;
 pub const RUNS: usize = 120;

@@ -1,7 +1,7 @@
 //! The proved planner, from the static library `yard_abi`.
 
-use crate::abi::*;
-use crate::tables::{Edit, Planner, Tables};
+use super::abi::*;
+use super::tables::{Edit, Planner, Tables};
 
 /// A table between two margins, so that a store outside it is noticed.
 struct Fenced<T> {
@@ -85,4 +85,17 @@ pub fn quote_duct(blocks: &[u16], runs: &[u16], run: u32, quote: &mut [u32], cro
     q.take(quote, "the quote");
     c.take(crossings, "the crossings");
     answer
+}
+
+/// The edits of a file: the number of the stop, 0 at the file's end; the tables and the two lists as the call leaves them.
+pub fn replay(t: &mut Tables, file: &[u8], answers: &mut [u32], end: &mut [u64]) -> u32 {
+    let mut f = Fenced::new(file, 0x5A);
+    let (mut a, mut e) = (Fenced::new(answers, 0x5A5A_5A5A), Fenced::new(end, 0x5A5A_5A5A_5A5A_5A5A));
+    let number = fenced_call!(t, yard_replay, f.ptr(), f.len, a.ptr(), a.len, e.ptr(), e.len);
+    let mut file_after = file.to_vec();
+    f.take(&mut file_after, "the file");
+    assert!(file_after == file, "the replay changed the file");
+    a.take(answers, "the answers");
+    e.take(end, "the end");
+    number
 }
