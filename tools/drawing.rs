@@ -1,9 +1,10 @@
 //! The page: scale, title, yard, scale bar and key.
 
-use crate::labels::{self, Line, Page};
+use crate::labels::{self, Line, Page, Placed};
 use crate::plane::{Box, Point};
 use crate::yards::Place;
-use crate::Yard;
+use crate::{Run, Yard};
+use std::collections::BTreeMap;
 use std::fmt::Write;
 
 const ROUTE: &str = "#1f5fa8";
@@ -12,7 +13,7 @@ const BLOCK_FILL: &str = "#e9ecef";
 const BLOCK_EDGE: &str = "#5f6b76";
 const INK: &str = "#22272b";
 const FAINT: &str = "#6b747c";
-pub const SMALL: f64 = 2.6;
+pub const SMALL: f64 = 3.0;
 
 /// Two decimals, without zeros at the end.
 fn figure(v: f64) -> String {
@@ -206,7 +207,7 @@ pub struct Key {
 
 impl Key {
     pub fn new(frame: &Frame) -> Key {
-        Key { left: frame.wide - MARGIN - 78.0, base: frame.tall - MARGIN - 3.0 }
+        Key { left: frame.wide - MARGIN - 88.0, base: frame.tall - MARGIN - 3.0 }
     }
 
     pub fn row(&self, k: f64) -> f64 {
@@ -232,7 +233,7 @@ impl Key {
 fn key(svg: &mut Svg, frame: &Frame) {
     let key = Key::new(frame);
     key.block(svg, 0.0);
-    for (k, lost, text) in [(1.0, "", "run: its shortest route and that route's length"), (2.0, " lost", "run with no way")] {
+    for (k, lost, text) in [(1.0, "", "run: its shortest route, numbered at both ends"), (2.0, " lost", "run with no way")] {
         svg.path(&format!("route{lost}"), &key.sign(k), false);
         key.sign(k).iter().for_each(|&end| svg.circle(&format!("end{lost}"), end));
         key.text(svg, k, text);
@@ -248,11 +249,12 @@ pub fn sheet(frame: &Frame, name: &str, more: &[&str]) -> Svg {
     svg.line(format_args!("<style>"));
     svg.line(format_args!("text {{ font-family: Helvetica, Arial, 'Liberation Sans', sans-serif; font-size: {SMALL}px; fill: {INK} }}"));
     svg.line(format_args!(".title {{ font-size: 5px; font-weight: bold }}"));
-    svg.line(format_args!(".note {{ font-size: 2.9px; fill: {FAINT} }}"));
+    svg.line(format_args!(".note {{ font-size: 3.1px; fill: {FAINT} }}"));
     svg.line(format_args!(".block {{ fill: {BLOCK_FILL}; fill-opacity: 0.85; stroke: {BLOCK_EDGE}; stroke-width: 0.2; stroke-linejoin: round }}"));
     svg.line(format_args!(".route {{ fill: none; stroke: {ROUTE}; stroke-width: 0.45; stroke-linejoin: round; stroke-linecap: round }}"));
     svg.line(format_args!(".end {{ fill: #fff; stroke: {ROUTE}; stroke-width: 0.35 }}"));
     svg.line(format_args!(".label {{ fill: {ROUTE}; stroke: #fff; stroke-width: 0.8; stroke-linejoin: round; paint-order: stroke }}"));
+    svg.line(format_args!(".ending {{ font-weight: bold }}"));
     svg.line(format_args!(".number {{ fill: {BLOCK_EDGE}; stroke: {BLOCK_FILL}; stroke-width: 0.5; stroke-linejoin: round; paint-order: stroke }}"));
     svg.line(format_args!(".route.lost {{ stroke: {NO_WAY}; stroke-dasharray: 1.6 1.3 }}"));
     svg.line(format_args!(".end.lost {{ stroke: {NO_WAY} }}"));
@@ -270,16 +272,50 @@ pub fn outlines(frame: &Frame, yard: &Yard) -> Vec<Vec<Point>> {
     yard.blocks.iter().map(|b| b.1.iter().map(|&c| frame.point(c)).collect()).collect()
 }
 
-/// Boxes for the numbers of the blocks, and for the texts of some lines, which are so much wider than a route's.
-pub fn placed(frame: &Frame, yard: &Yard, lines: &[Vec<Point>], texts: &[String], wider: f64) -> (Vec<Box>, Vec<Box>) {
+/// The numbers of the runs that end at a place.
+pub struct Ending {
+    at: Point,
+    text: String,
+    lost: bool,
+}
+
+/// Numbers in order, neighbours as one range; none where that takes too much room.
+fn ranges(numbers: &[usize]) -> Option<String> {
+    let mut found: Vec<(usize, usize)> = vec![];
+    for &n in numbers {
+        match found.last_mut() {
+            Some(last) if n <= last.1 + 1 => last.1 = n,
+            _ => found.push((n, n)),
+        }
+    }
+    let texts: Vec<String> = found.iter().map(|&(a, b)| if a == b { a.to_string() } else { format!("{a}–{b}") }).collect();
+    (texts.len() <= 4).then(|| texts.join(", "))
+}
+
+fn endings(frame: &Frame, yard: &Yard) -> Vec<Ending> {
+    let mut at: BTreeMap<Place, Vec<&Run>> = BTreeMap::new();
+    for run in &yard.runs {
+        run.ends().into_iter().for_each(|end| at.entry(end).or_default().push(run));
+    }
+    let ending = |(place, runs): (Place, Vec<&Run>)| {
+        let text = ranges(&runs.iter().map(|r| r.number).collect::<Vec<_>>())?;
+        Some(Ending { at: frame.point(place), text, lost: runs.iter().all(|r| r.length.is_none()) })
+    };
+    at.into_iter().filter_map(ending).collect()
+}
+
+/// Boxes for the numbers of the blocks, those at ends, and the texts of some lines, which are so much wider than a route's.
+pub fn placed(frame: &Frame, yard: &Yard, endings: &[Ending], lines: &[Vec<Point>], texts: &[String], wider: f64) -> Placed {
     let tall = 0.78 * SMALL;
     let number = |b: &(usize, Vec<Place>), outline: Vec<Point>| (outline, width(&b.0.to_string(), SMALL), tall);
-    let (numbers, labels) = labels::place(&Page {
+    let mut placed = labels::place(&Page {
         area: frame.area,
         blocks: yard.blocks.iter().zip(outlines(frame, yard)).map(|(b, outline)| number(b, outline)).collect(),
+        ends: endings.iter().map(|e| (e.at, 1.1 * width(&e.text, SMALL), tall)).collect(),
         lines: lines.iter().zip(texts).map(|(l, t)| Line { points: l.clone(), wide: width(t, SMALL) + wider, tall: tall + wider }).collect(),
     });
-    (numbers, labels.iter().map(|b| b.grown(-wider / 2.0)).collect())
+    placed.labels.iter_mut().for_each(|b| *b = b.grown(-wider / 2.0));
+    placed
 }
 
 /// A text in its box.
@@ -309,20 +345,23 @@ pub fn svg(name: &str, yard: &Yard) -> String {
             Some(cm) => format!("run {}: {cm} cm", r.number),
         })
         .collect();
-    let (numbers, labels) = placed(&frame, yard, &lines, &texts, 0.0);
+    let endings = endings(&frame, yard);
+    let placed = placed(&frame, yard, &endings, &lines, &texts, 0.0);
 
     outlines(&frame, yard).iter().for_each(|b| svg.path("block", b, true));
-    let class = |of: &str, r: &crate::Run| if r.length.is_none() { format!("{of} lost") } else { of.to_string() };
+    let class = |of: &str, lost: bool| if lost { format!("{of} lost") } else { of.to_string() };
     for (run, line) in yard.runs.iter().zip(&lines) {
-        svg.path(&class("route", run), line, false);
+        svg.path(&class("route", run.length.is_none()), line, false);
     }
-    for (run, line) in yard.runs.iter().zip(&lines) {
-        svg.circle(&class("end", run), line[0]);
-        svg.circle(&class("end", run), line[line.len() - 1]);
+    for run in &yard.runs {
+        run.ends().iter().for_each(|&end| svg.circle(&class("end", run.length.is_none()), frame.point(end)));
     }
-    set_numbers(&mut svg, yard, &numbers);
-    for ((run, text), b) in yard.runs.iter().zip(&texts).zip(&labels) {
-        set(&mut svg, b, &class("label", run), text);
+    set_numbers(&mut svg, yard, &placed.numbers);
+    for (ending, b) in endings.iter().zip(&placed.ends) {
+        set(&mut svg, b, &class("label ending", ending.lost), &ending.text);
+    }
+    for ((run, text), b) in yard.runs.iter().zip(&texts).zip(&placed.labels) {
+        set(&mut svg, b, &class("label", run.length.is_none()), text);
     }
     scale_bar(&mut svg, &frame);
     key(&mut svg, &frame);

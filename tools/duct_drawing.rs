@@ -37,13 +37,9 @@ fn note(run: u32, duct: &Duct) -> Note {
     }
 }
 
-fn ends(run: &Run) -> Vec<Place> {
-    vec![run.places[0], run.places[run.places.len() - 1]]
-}
-
 /// The straights through every corner and both ends, as far as the outermost of them.
 fn grid(yard: &Yard, run: &Run) -> Vec<[Place; 2]> {
-    let places: Vec<Place> = yard.blocks.iter().flat_map(|b| &b.1).copied().chain(ends(run)).collect();
+    let places: Vec<Place> = yard.blocks.iter().flat_map(|b| &b.1).copied().chain(run.ends()).collect();
     let sorted = |of: fn(&Place) -> u16| {
         let mut all: Vec<u16> = places.iter().map(of).collect();
         all.sort();
@@ -115,7 +111,7 @@ fn labelled(run: u32, duct: &Duct, drawn: Option<&Run>) -> Vec<(Vec<Place>, Stri
     let route = drawn.filter(|r| r.length.is_some()).map(|r| (r.places.clone(), String::new()));
     let own = match (duct, drawn) {
         (Duct::Found(way), _) => Some((bends(way), format!("run {run}: cost {}", way.cost))),
-        (Duct::NoWay, Some(r)) => Some((ends(r), format!("run {run}: no way"))),
+        (Duct::NoWay, Some(r)) => Some((r.ends().to_vec(), format!("run {run}: no way"))),
         _ => None,
     };
     own.into_iter().chain(route).collect()
@@ -128,7 +124,7 @@ pub fn svg(name: &str, yard: &Yard, run: u32, duct: &Duct) -> String {
     let drawn = yard.runs.iter().find(|r| r.number as u32 == run);
     let points = |places: &[Place]| -> Vec<Point> { places.iter().map(|&p| frame.point(p)).collect() };
     let (lines, texts): (Vec<Vec<Point>>, Vec<String>) = labelled(run, duct, drawn).into_iter().map(|(l, t)| (points(&l), t)).unzip();
-    let (numbers, labels) = placed(&frame, yard, &lines, &texts, 1.6);
+    let placed = placed(&frame, yard, &[], &lines, &texts, 1.6);
 
     if let (Some(run), false) = (drawn, matches!(duct, Duct::Refused(_))) {
         grid(yard, run).iter().for_each(|line| svg.path("grid", &points(line), false));
@@ -139,13 +135,13 @@ pub fn svg(name: &str, yard: &Yard, run: u32, duct: &Duct) -> String {
     }
     match (duct, drawn) {
         (Duct::Found(way), _) => draw_way(&mut svg, &frame, way),
-        (Duct::NoWay, Some(run)) => draw_no_way(&mut svg, &points(&ends(run))),
-        (Duct::Refused(_), Some(run)) => draw_ends(&mut svg, &points(&ends(run))),
+        (Duct::NoWay, Some(run)) => draw_no_way(&mut svg, &points(&run.ends())),
+        (Duct::Refused(_), Some(run)) => draw_ends(&mut svg, &points(&run.ends())),
         _ => {}
     }
-    set_numbers(&mut svg, yard, &numbers);
+    set_numbers(&mut svg, yard, &placed.numbers);
     let class = if matches!(duct, Duct::Found(_)) { "label cost" } else { "label lost" };
-    labels.iter().zip(&texts).filter(|(_, text)| !text.is_empty()).for_each(|(b, text)| set(&mut svg, b, class, text));
+    placed.labels.iter().zip(&texts).filter(|(_, text)| !text.is_empty()).for_each(|(b, text)| set(&mut svg, b, class, text));
     scale_bar(&mut svg, &frame);
     key(&mut svg, &frame);
     svg.line(format_args!("</svg>"));

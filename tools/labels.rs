@@ -1,4 +1,4 @@
-//! Places for the numbers of blocks and the labels of runs, so that they overlap little.
+//! Places for the numbers of blocks, the numbers at the ends of runs and the labels of runs, so that they overlap little.
 
 use crate::plane::{along, centre, distance, distance_to, length, Box, Point};
 
@@ -13,7 +13,16 @@ pub struct Page {
     pub area: Box,
     /// The outlines of the blocks, and the sizes of their numbers.
     pub blocks: Vec<(Vec<Point>, f64, f64)>,
+    /// Where runs end, and the sizes of the numbers there.
+    pub ends: Vec<(Point, f64, f64)>,
     pub lines: Vec<Line>,
+}
+
+/// A box for each of these.
+pub struct Placed {
+    pub numbers: Vec<Box>,
+    pub ends: Vec<Box>,
+    pub labels: Vec<Box>,
 }
 
 const GAP: f64 = 0.9;
@@ -76,7 +85,13 @@ fn place_number(page: &Page, k: usize, placed: &[Box]) -> Option<Box> {
     least(boxes.into_iter().map(|(far, b)| (far + drawn_under(page, &b, None) + label_under(placed, &b), b)).collect())
 }
 
-/// Near the middle of the line, better where no other line is close.
+fn place_end(page: &Page, k: usize, placed: &[Box]) -> Option<Box> {
+    let (at, wide, tall) = page.ends[k];
+    let boxes = [1.3, 2.1].into_iter().flat_map(|by| beside(at, wide, tall, by).into_iter().map(move |b| (by, b)));
+    least(boxes.map(|(far, b)| (far + drawn_under(page, &b, None) + label_under(placed, &b), b)).collect())
+}
+
+/// Near the middle of the line, better where no other line is close, and best where it shares no straight.
 fn place_label(page: &Page, k: usize, placed: &[Box]) -> Option<Box> {
     let line = &page.lines[k];
     let whole = length(&line.points);
@@ -87,7 +102,8 @@ fn place_label(page: &Page, k: usize, placed: &[Box]) -> Option<Box> {
     for s in 0..=steps {
         let far = whole * s as f64 / steps as f64;
         let (p, direction) = along(&line.points, far);
-        let base = 0.08 * (far - whole / 2.0).abs() + 1.5 * (3.0 - nearest(p)).max(0.0);
+        let close = nearest(p);
+        let base = 0.05 * (far - whole / 2.0).abs() + 1.5 * (3.0 - close).max(0.0) + if close < 0.3 { 8.0 } else { 0.0 };
         // on the line, and on both sides just clear of it
         let off = (line.wide * direction.1.abs() + line.tall * direction.0.abs()) / 2.0 + GAP;
         for by in [0.0, off, -off] {
@@ -96,21 +112,25 @@ fn place_label(page: &Page, k: usize, placed: &[Box]) -> Option<Box> {
         candidates.extend(beside(p, line.wide, line.tall, 1.3).into_iter().map(|b| (base + 0.5, b)));
     }
     // nearer to its own line than to another
-    let doubt = |b: &Box| 0.6 * (far_from(b.centre(), line) + 2.0 - nearest(b.centre())).max(0.0);
+    let doubt = |b: &Box| 1.5 * (far_from(b.centre(), line) + 2.0 - nearest(b.centre())).max(0.0);
     least(candidates.into_iter().map(|(base, b)| (base + doubt(&b) + drawn_under(page, &b, Some(k)) + label_under(placed, &b), b)).collect())
 }
 
-/// The boxes of the numbers, then those of the labels.
-pub fn place(page: &Page) -> (Vec<Box>, Vec<Box>) {
-    let numbers = page.blocks.len();
-    let all = numbers + page.lines.len();
+pub fn place(page: &Page) -> Placed {
+    let (numbers, ends) = (page.blocks.len(), page.ends.len());
+    let all = numbers + ends + page.lines.len();
     let mut placed: Vec<Option<Box>> = vec![None; all];
     for _ in 0..4 {
         for k in 0..all {
             let others: Vec<Box> = (0..all).filter(|&o| o != k).filter_map(|o| placed[o]).collect();
-            placed[k] = if k < numbers { place_number(page, k, &others) } else { place_label(page, k - numbers, &others) };
+            placed[k] = match k {
+                k if k < numbers => place_number(page, k, &others),
+                k if k < numbers + ends => place_end(page, k - numbers, &others),
+                _ => place_label(page, k - numbers - ends, &others),
+            };
         }
     }
-    let labels = placed.split_off(numbers).into_iter().flatten().collect();
-    (placed.into_iter().flatten().collect(), labels)
+    let mut boxes = placed.into_iter().flatten();
+    let mut next = |count: usize| -> Vec<Box> { boxes.by_ref().take(count).collect() };
+    Placed { numbers: next(numbers), ends: next(ends), labels: next(page.lines.len()) }
 }
