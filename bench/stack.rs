@@ -1,4 +1,5 @@
-//! The greatest depth of stack inside each call: the call runs on a stack painted beforehand.
+//! The greatest depth of stack inside each call, against what `include/yard.h` has its user reserve: the call runs on a
+//! stack painted beforehand.
 
 use crate::{abi::*, displacements, ducts, Grid, Tables, CROWDED};
 use std::arch::asm;
@@ -21,12 +22,14 @@ enum Call {
     RemoveRun,
     MoveRun([u16; 4]),
     Check,
+    Replay(Vec<u8>, Vec<u32>, [u64; 2]),
     QuoteDuct([u32; ducts::QUOTE], Vec<u16>),
 }
 
 const NUMBER: u32 = 8;
-/// Of the duct quote, which needs no pairs and routes.
-const LIMIT: usize = 48 << 10;
+const TABLES: usize = 48_648;
+/// Of the tables and the stack of the calls that a panel makes.
+const PANEL: usize = 65_536;
 
 extern "C" fn perform(job: *mut Job) {
     let job = unsafe { &mut *job };
@@ -43,6 +46,10 @@ extern "C" fn perform(job: *mut Job) {
             Call::RemoveRun => yard_remove_run(b, bl, r, rl, p, pl, w, wl, NUMBER),
             Call::MoveRun(e) => yard_move_run(b, bl, r, rl, p, pl, w, wl, NUMBER, e[0], e[1], e[2], e[3]),
             Call::Check => yard_check(b, bl, r, rl, p, pl, w, wl),
+            Call::Replay(f, a, e) => {
+                let (a, al, e, el) = (a.as_mut_ptr(), a.len(), e.as_mut_ptr(), e.len());
+                yard_replay(b, bl, r, rl, p, pl, w, wl, f.as_ptr(), f.len(), a, al, e, el)
+            }
             Call::QuoteDuct(q, c) => yard_quote_duct(b, bl, r, rl, 0, q.as_mut_ptr(), q.len(), c.as_mut_ptr(), c.len()),
         }
     };
@@ -84,7 +91,31 @@ fn greatest(calls: &[(Tables, Call)]) -> usize {
     most
 }
 
-pub fn print() {
+/// Every kind of edit, in a yard where block and run 8 stand, and a block of 255 corners.
+fn every_kind() -> Vec<u8> {
+    let record = |kind: u8, fields: &[u16]| -> Vec<u8> {
+        [kind, NUMBER as u8].into_iter().chain(fields.iter().flat_map(|f| f.to_le_bytes())).collect()
+    };
+    let block = |fields: &[u16]| {
+        let mut bytes = record(1, fields);
+        bytes.insert(2, (fields.len() / 2) as u8);
+        bytes
+    };
+    let ends = Grid::ends(NUMBER as u16);
+    let edits = [
+        record(3, &[100, 65_436]),
+        record(6, &[0, 0, 32_767, 32_767]),
+        record(2, &[]),
+        block(&[0; 510]),
+        block(&CROWDED.corners(NUMBER as usize)),
+        record(5, &[]),
+        record(4, &ends),
+    ];
+    [b"YRD\x01\x00".to_vec(), edits.concat()].concat()
+}
+
+/// What each call that edits or checks is tried with, over the crowded yard; the replay, which no panel makes, last.
+fn calls() -> [(&'static str, Vec<(Tables, Call)>); 9] {
     let mut full = CROWDED.tables();
     // a straight whose root is as deep as any
     assert_eq!(full.yard().move_run(0, [0, 2000, 32767, 10]), 0);
@@ -93,7 +124,8 @@ pub fn print() {
     perform(&mut Job { t: &mut without, call: Call::RemoveRun });
     let move_blocks = displacements(3).into_iter().map(|d| (full.clone(), Call::MoveBlock(d.0, d.1))).collect();
     let move_runs = [[0, 0, 32767, 32767], [7, 9, 7, 9]].map(|ends| (full.clone(), Call::MoveRun(ends))).to_vec();
-    let all: [(&str, Vec<(Tables, Call)>); 8] = [
+    let replay = Call::Replay(every_kind(), vec![0; 4096], [0; 2]);
+    [
         ("yard_start", vec![(full.clone(), Call::Start)]),
         ("yard_add_block", vec![(without.clone(), Call::AddBlock(CROWDED.corners(NUMBER as usize)))]),
         ("yard_remove_block", vec![(full.clone(), Call::RemoveBlock)]),
@@ -102,18 +134,31 @@ pub fn print() {
         ("yard_remove_run", vec![(full.clone(), Call::RemoveRun)]),
         ("yard_move_run", move_runs),
         ("yard_check", vec![(full.clone(), Call::Check)]),
-    ];
+        ("yard_replay", vec![(full, replay)]),
+    ]
+}
+
+/// The KiB that the header has its user reserve, in its order: for a call, then for the duct quote.
+fn reserves(header: &str) -> Vec<usize> {
+    let words: Vec<&str> = header.split_whitespace().filter(|&w| w != "*").collect();
+    let reserve = |w: &[&str]| (w[0] == "reserve" && w[2].starts_with("KiB")).then(|| w[1].parse().ok())?;
+    words.windows(3).filter_map(reserve).collect()
+}
+
+/// Prints the depths, and stops where one does not fit what is promised.
+pub fn print() {
+    let header = std::fs::read_to_string("include/yard.h").expect("include/yard.h");
+    let [call, quote] = reserves(&header)[..] else { panic!("include/yard.h reserves not two stacks: {:?}", reserves(&header)) };
     println!("greatest depth of stack of a call, bytes, its caller's small frame included, over the crowded yard");
-    let mut most = 0;
-    for (name, calls) in &all {
-        let bytes = greatest(calls);
-        println!("{name:<18} {bytes:>6}");
-        most = most.max(bytes);
-    }
-    println!("tables 48648 + stack {most} = {} bytes, to stay below 65536", 48648 + most);
-    assert!(48648 + most < 65536);
+    let depths = calls().map(|(name, calls)| (name, greatest(&calls)));
+    depths.iter().for_each(|(name, bytes)| println!("{name:<18} {bytes:>6}"));
+    assert!(depths.iter().all(|d| d.1 <= call << 10), "a call takes more than the {call} KiB of stack that the header reserves");
+    let most = depths[..8].iter().map(|d| d.1).max().unwrap_or(0);
+    println!("tables {TABLES} + stack {most} of a panel's calls = {} bytes, to stay below {PANEL}", TABLES + most);
+    assert!(TABLES + most < PANEL, "a panel's call takes too much stack");
     let duct = |y: &ducts::Yard| (y.tables(), Call::QuoteDuct([0; ducts::QUOTE], vec![0; ducts::CROSSINGS]));
     let bytes = greatest(&ducts::YARDS.iter().map(duct).collect::<Vec<_>>());
-    println!("{:<18} {bytes:>6} over the yards of the duct quote, to stay below {LIMIT}", "yard_quote_duct");
-    assert!(bytes < LIMIT);
+    println!("{:<18} {bytes:>6} over the yards of the duct quote", "yard_quote_duct");
+    assert!(bytes <= quote << 10, "the duct quote takes more than the {quote} KiB of stack that the header reserves");
+    println!("tests/stack: within the {call} and the {quote} KiB that include/yard.h reserves");
 }
