@@ -144,7 +144,7 @@ impl Tests {
     }
 }
 
-/// Files with the listing that document 01 or a hand gives.
+/// Files with the listing that docs/RULES.md or a hand gives.
 fn known() -> Vec<Case> {
     let with = |name: &str, file: Vec<u8>, text: &'static str| Case { known: Some(text), ..case(name, file) };
     let document = [
@@ -155,7 +155,7 @@ fn known() -> Vec<Case> {
     let square = Edit::AddBlock(0, vec![10, 10, 20, 10, 20, 20, 10, 20]);
     let head = |bytes: &[u8]| [&HEAD[..], bytes].concat();
     vec![
-        with("document 01", file(&document), "edit 1 answer 0\nedit 2 answer 0\nedit 3 answer 0\nrun 0 length 30 marks 192 10 193\n"),
+        with("the listed yard", file(&document), "edit 1 answer 0\nedit 2 answer 0\nedit 3 answer 0\nrun 0 length 30 marks 192 10 193\n"),
         with("before block 1", file(&document[..2]), "edit 1 answer 0\nedit 2 answer 0\nrun 0 length 31 marks 192 0 1 193\n"),
         with("the square", file(&[square.clone(), Edit::AddRun(0, [0, 15, 30, 15])]), "edit 1 answer 0\nedit 2 answer 0\nrun 0 length 34 marks 192 0 1 193\n"),
         with("no way", file(&[square.clone(), Edit::AddRun(0, [0, 15, 15, 15])]), "edit 1 answer 0\nedit 2 answer 0\nrun 0 no way\n"),
@@ -304,7 +304,7 @@ fn examples() -> std::io::Result<Vec<(String, Vec<u8>)>> {
     Ok(found)
 }
 
-fn try_program(program: &str, seconds: u64) -> Result<bool, String> {
+fn try_program(program: &str, seconds: u64, seed: u64) -> Result<bool, String> {
     let examples = examples().map_err(|e| format!("examples: {e}"))?;
     let (_, document) = examples.iter().find(|(name, _)| name.ends_with("document.yrd")).ok_or("no examples/document.yrd")?;
     let mut tests = Tests { program: program.to_string(), passed: 0, failed: 0 };
@@ -330,23 +330,28 @@ fn try_program(program: &str, seconds: u64) -> Result<bool, String> {
     }
     tests.list("examples with a byte changed", changed);
     tests.list("random files", random_files());
+    println!("tests/files fuzzing: seed {seed}, {seconds} s");
     let until = Instant::now() + Duration::from_secs(seconds);
     tests.group("fuzzing", |k| {
-        let mut r = Random::new(k as u64 ^ 0xF022_0000);
+        let mut r = Random::of_case(seed, k as u64);
         let base = if r.percent(50) { examples[r.below(examples.len())].1.clone() } else { random_file(&mut r, 40) };
         let other = random_file(&mut r, 10);
-        let c = case(format!("fuzzing, case {k}"), damaged(&mut r, &base, &other));
+        let c = case(format!("fuzzing, seed {seed}, case {k}"), damaged(&mut r, &base, &other));
         (Instant::now() < until).then_some(c)
     });
     println!("tests/files: {} passed, {} failed", tests.passed, tests.failed);
     Ok(tests.failed == 0)
 }
 
+fn number(word: &str) -> Result<u64, String> {
+    word.parse().map_err(|_| format!("'{word}' is not a number"))
+}
+
 fn main() -> ExitCode {
     let args: Vec<String> = std::env::args().skip(1).collect();
     let words: Vec<&str> = args.iter().map(|s| s.as_str()).collect();
     let outcome = match words[..] {
-        ["try", program, seconds] => seconds.parse().map_err(|_| format!("{seconds} is not a number of seconds")).and_then(|s| try_program(program, s)),
+        ["try", program, seconds, seed] => number(seconds).and_then(|s| try_program(program, s, number(seed)?)),
         // the listing of the second planner
         ["list", path] => fs::read(path).map_err(|e| format!("{path}: {e}")).map(|bytes| {
             print!("{}", listing(&bytes));

@@ -1,4 +1,4 @@
-//! A second duct router (document 02, T-06), unrelated to the proved one: paths are lists of places, priced as the
+//! A second duct router (docs/RULES.md, "Ducts"), unrelated to the proved one: paths are lists of places, priced as the
 //! request says and compared whole. One way goes along every path that does not meet itself, for yards of few lines;
 //! the other extends paths from the first end, the least first.
 

@@ -1,4 +1,4 @@
-//! Document 02, T-06: the duct quote against the second duct router, its number and every word of its two lists.
+//! docs/RULES.md, "Ducts": the duct quote against the second duct router, its number and every word of its two lists.
 
 use crate::duct_router::Lines;
 use crate::duct_yards::{seeded, shown, small_name, small_yard, turned, Kind, MAZE, SMALL, SMALL_KINDS, SMALL_YARDS};
@@ -398,6 +398,14 @@ fn wrong_records(report: &mut Report) {
         let few = [0, 2, 3, 5, 12].iter().any(|&n| numbers[n] < 20) || numbers[2] < 400;
         if few { Err(format!("{numbers:?}")) } else { Ok(()) }
     });
+}
+
+/// A random yard of a random kind.
+pub fn one(r: &mut Random, calls: &mut usize) -> Result<(), String> {
+    let kind = if r.percent(50) { r.pick(&KINDS) } else { r.pick(&SMALL_KINDS) };
+    let (book, run) = kind.yard(r);
+    *calls += 1;
+    compared(r, &book, run)
 }
 
 pub fn ducts(report: &mut Report) {

@@ -3,10 +3,17 @@
 #[cfg(not(plain))]
 #[path = "../../bindings/abi.rs"]
 mod abi;
+mod degenerate;
 mod duct_router;
 mod duct_yards;
 #[cfg(not(plain))]
 mod ducts;
+#[cfg(not(plain))]
+mod empty_lists;
+#[cfg(not(plain))]
+#[path = "../files/files.rs"]
+mod files;
+mod fuzz;
 #[cfg(not(plain))]
 #[path = "../../bindings/linked.rs"]
 mod linked;
@@ -14,9 +21,14 @@ mod linked;
 mod plain_planner;
 mod random;
 #[cfg(not(plain))]
+#[path = "../files/reader.rs"]
+mod reader;
+#[cfg(not(plain))]
 mod reading;
 mod rectangles;
 mod reference;
+#[cfg(not(plain))]
+mod replaying;
 #[path = "../../bindings/tables.rs"]
 mod tables;
 mod trials;
@@ -134,6 +146,15 @@ fn shrunk(p: &impl Planner, edits: &[Edit], why: String) -> String {
     format!("{why}\nthe edits:\n{}", lines.join("\n"))
 }
 
+/// A list and a check after it; if it goes wrong, fewer edits that do, where that is asked for.
+fn random_list(p: &impl Planner, edits: &[Edit], shrink: bool, calls: &mut usize) -> Result<(), String> {
+    match replay(p, edits, calls) {
+        Ok(t) => same_answer("check after the list", p.check(&t), 0),
+        Err(why) if shrink => Err(shrunk(p, edits, why)),
+        Err(why) => Err(why),
+    }
+}
+
 fn random_lists(p: &impl Planner, report: &mut Report, styles: &[Style], lists: usize, count: usize) {
     for (k, s) in styles.iter().enumerate() {
         for l in 0..lists {
@@ -141,11 +162,7 @@ fn random_lists(p: &impl Planner, report: &mut Report, styles: &[Style], lists: 
             let first = report.group.1 == 0;
             report.case(&format!("{} seed {seed}", s.name), |calls| {
                 let edits = random::list(&mut Random::new(seed), s, count);
-                match replay(p, &edits, calls) {
-                    Ok(t) => same_answer("check after the list", p.check(&t), 0),
-                    Err(why) if first => Err(shrunk(p, &edits, why)),
-                    Err(why) => Err(why),
-                }
+                random_list(p, &edits, first, calls)
             });
         }
     }
@@ -457,6 +474,11 @@ fn own_parts(report: &mut Report) {
 }
 
 fn main() {
+    let words: Vec<u64> = std::env::args().skip(1).filter_map(|w| w.parse().ok()).collect();
+    let [seconds, seed] = words[..] else {
+        eprintln!("tests/yard: the words are a number of seconds and a seed");
+        std::process::exit(2);
+    };
     let p = planner();
     let mut report = Report { passed: 0, failed: 0, group: (0, 0, 0), since: Instant::now() };
     std::panic::set_hook(Box::new(|_| {}));
@@ -472,6 +494,8 @@ fn main() {
     report.end_group("random lists of edits");
     random_lists(&p, &mut report, &FULL, 4, 200);
     report.end_group("random lists, full yards");
+    degenerate::degenerate(&p, &mut report);
+    report.end_group("degenerate yards, small and stretched");
     spoiled_tables(&p, &mut report);
     longest_routes(&p, &mut report);
     report.end_group("spoiled pairs and routes");
@@ -487,9 +511,15 @@ fn main() {
     {
         reading::reading(&mut report);
         report.end_group("reading");
+        replaying::replaying(&mut report);
+        report.end_group("replays");
+        empty_lists::empty_lists(&mut report);
+        report.end_group("lists that are NULL");
         ducts::ducts(&mut report);
         report.end_group("ducts");
     }
+    fuzz::fuzz(&p, &mut report, seconds, seed);
+    report.end_group("fuzzing");
     println!("tests/yard: {} passed, {} failed", report.passed, report.failed);
     std::process::exit(if report.failed == 0 { 0 } else { 1 });
 }

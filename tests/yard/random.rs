@@ -11,6 +11,11 @@ impl Random {
         Random(seed)
     }
 
+    /// For one case of a run from a seed.
+    pub fn of_case(seed: u64, case: u64) -> Random {
+        Random(seed.wrapping_mul(1_000_000_007).wrapping_add(case))
+    }
+
     pub fn next(&mut self) -> u64 {
         self.0 = self.0.wrapping_add(0x9E37_79B9_7F4A_7C15);
         let z = (self.0 ^ (self.0 >> 30)).wrapping_mul(0xBF58_476D_1CE4_E5B9);

@@ -4,7 +4,7 @@ use crate::abi::yard_read;
 use crate::random::Random;
 use crate::Report;
 
-/// What the record at a position is, written from document 01: its kind, number, fields and next position.
+/// What the record at a position is, written from docs/RULES.md: its kind, number, fields and next position.
 fn own_read(file: &[u8], at: usize) -> Result<[u64; 4], u32> {
     if !(5..=8192).contains(&file.len()) || !file.starts_with(b"YRD\x01\x00") {
         return Err(9);

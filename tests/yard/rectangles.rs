@@ -1,4 +1,4 @@
-//! Document 02, T-03: every straight of a grid that reaches past a block on each side, so that all of them that begin
+//! Every straight of a grid that reaches past a block on each side, so that all of them that begin
 //! or end at the edge of the block's rectangle are among them.
 
 use crate::reference::Book;

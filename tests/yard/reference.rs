@@ -310,7 +310,7 @@ pub fn edited(t: &Tables, e: &Edit) -> (u32, Tables) {
     (answer, after)
 }
 
-/// Document 01: "An accepted edit of block n treats pairs so, in tables right or wrong."
+/// How an accepted edit treats pairs, in tables right or wrong: docs/RULES.md, "Start and the edits".
 fn treat_pairs(book: &Book, e: &Edit, pairs: &mut [u8]) {
     let marks = book.marks();
     let (own, block) = match e {

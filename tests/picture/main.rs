@@ -1,0 +1,208 @@
+//! Tests of `yardpicture`, run as a process over random yard files: a whole SVG whose every point lies on its page, with
+//! the blocks, runs and lengths of the second planner; and the same bytes for the same file.
+
+#[path = "../files/files.rs"]
+mod files;
+#[path = "../yard/random.rs"]
+#[allow(dead_code)]
+mod random;
+#[path = "../files/reader.rs"]
+mod reader;
+#[path = "../yard/reference.rs"]
+#[allow(dead_code)]
+mod reference;
+mod svg;
+#[path = "../../bindings/tables.rs"]
+#[allow(dead_code)]
+mod tables;
+
+use files::{damaged, random_bytes, random_file};
+use random::Random;
+use reference::Book;
+use std::ffi::OsString;
+use std::fs;
+use std::os::unix::ffi::OsStringExt;
+use std::process::{Command, ExitCode};
+use std::time::{Duration, Instant};
+use svg::Element;
+
+/// What the program draws.
+fn drawn(program: &str, words: &[OsString]) -> Result<String, String> {
+    let out = Command::new(program).args(words).output().map_err(|e| format!("{program}: {e}"))?;
+    if !out.status.success() || !out.stderr.is_empty() {
+        return Err(format!("{program} ended with {}: {}", out.status, String::from_utf8_lossy(&out.stderr)));
+    }
+    String::from_utf8(out.stdout).map_err(|_| "not UTF-8".to_string())
+}
+
+fn number(text: &str) -> Result<f64, String> {
+    let plain = text.chars().all(|c| c.is_ascii_digit() || c == '.' || c == '-');
+    let value = text.parse::<f64>().ok().filter(|v| plain && v.is_finite());
+    value.ok_or(format!("'{text}' is not a number"))
+}
+
+/// The places that an element names.
+fn places(e: &Element) -> Result<Vec<(f64, f64)>, String> {
+    let pair = |x: &str, y: &str| -> Result<(f64, f64), String> { Ok((number(x)?, number(y)?)) };
+    let mut all = vec![];
+    for (x, y) in [("x", "y"), ("cx", "cy")] {
+        if let (Some(x), Some(y)) = (e.get(x), e.get(y)) {
+            all.push(pair(x, y)?);
+        }
+    }
+    for point in e.get("points").into_iter().flat_map(|list| list.split(' ')) {
+        let (x, y) = point.split_once(',').ok_or(format!("point '{point}'"))?;
+        all.push(pair(x, y)?);
+    }
+    Ok(all)
+}
+
+fn on_page(all: &[Element]) -> Result<(), String> {
+    let page = all[0].get("viewBox").ok_or("no viewBox")?;
+    let page: Vec<f64> = page.split(' ').map(number).collect::<Result<_, _>>()?;
+    let [0.0, 0.0, wide, tall] = page[..] else { return Err(format!("page {page:?}")) };
+    if (wide, tall) != (210.0, 297.0) && (wide, tall) != (297.0, 210.0) {
+        return Err(format!("page {page:?}"));
+    }
+    for e in all {
+        if let Some(p) = places(e)?.iter().find(|p| p.0 < 0.0 || p.0 > wide || p.1 < 0.0 || p.1 > tall) {
+            return Err(format!("<{}> at {p:?}, outside the page", e.name));
+        }
+    }
+    Ok(())
+}
+
+fn texts<'a>(all: &'a [Element], class: &'a str) -> impl Iterator<Item = &'a str> {
+    all.iter().filter(move |e| e.name == "text" && e.get("class") == Some(class)).map(|e| e.text.as_str())
+}
+
+fn counted(count: usize, word: &str) -> String {
+    match count {
+        0 => format!("no {word}s"),
+        1 => format!("1 {word}"),
+        _ => format!("{count} {word}s"),
+    }
+}
+
+/// The texts that the page must have for the yard that a file leaves.
+fn said(file: &[u8], all: &[Element], duct: bool) -> Result<(), String> {
+    let (edits, stop) = reader::read(file);
+    let mut book = Book::new();
+    let refused = edits.iter().filter(|e| book.step(e) != 0).count();
+    let drawing = book.drawing();
+    let runs: Vec<usize> = (0..24).filter(|&m| drawing.route(m).0 != 0).collect();
+    let lost = runs.iter().filter(|&&m| drawing.route(m).0 == 2).count();
+    let blocks = book.blocks.iter().filter(|b| !b.is_empty()).count();
+    let lost = if lost > 0 { format!(" ({lost} with no way)") } else { String::new() };
+    let refused = if refused > 0 { format!(", {refused} refused") } else { String::new() };
+    let note = format!("{}, {}{lost}; {}{refused}", counted(blocks, "block"), counted(runs.len(), "run"), counted(edits.len(), "edit"));
+    if !texts(all, "note").any(|t| t == note) {
+        return Err(format!("no text '{note}'"));
+    }
+    if let Some(stop) = stop {
+        let start = format!("stop {} at {}:", stop.number, stop.at);
+        texts(all, "note lost").find(|t| t.starts_with(&start)).ok_or(format!("no text '{start}'"))?;
+    }
+    let class = |name: &str| all.iter().filter(|e| e.get("class").is_some_and(|c| c.split(' ').next() == Some(name))).count();
+    // one more of each in the key
+    if class("block") != blocks + 1 || class("number") != blocks {
+        return Err(format!("{} outlines and {} numbers of {blocks} blocks", class("block"), class("number")));
+    }
+    if duct {
+        return Ok(());
+    }
+    if class("route") != runs.len() + 2 {
+        return Err(format!("{} routes of {} runs", class("route") - 2, runs.len()));
+    }
+    for m in runs {
+        let (state, cm, marks) = drawing.route(m);
+        let long = [format!("run {m}: {cm} cm"), format!("run {m}: {}.{:02} m", cm / 100, cm % 100)];
+        let found = match state {
+            1 => texts(all, "label").any(|t| long.iter().any(|l| l == t)),
+            _ => texts(all, "label lost").any(|t| t == format!("run {m}: no way")),
+        };
+        if !found {
+            return Err(format!("no label of run {m}: {state}, {cm}, {marks:?}"));
+        }
+    }
+    Ok(())
+}
+
+/// A picture of a file under a name, drawn twice.
+fn tried(program: &str, file: &[u8], name: OsString, duct: Option<u32>) -> Result<(), String> {
+    let path: OsString = [OsString::from("target/tests/"), name].into_iter().collect();
+    fs::write(&path, file).map_err(|e| format!("{path:?}: {e}"))?;
+    let option = duct.map_or(vec![], |run| vec!["--duct".into(), run.to_string().into()]);
+    let words: Vec<OsString> = option.into_iter().chain([path.clone()]).collect();
+    let outcome = drawn(program, &words).and_then(|svg| {
+        let all = svg::elements(&svg)?;
+        on_page(&all)?;
+        said(file, &all, duct.is_some())?;
+        if drawn(program, &words)? == svg { Ok(()) } else { Err("another picture of the same file".to_string()) }
+    });
+    let _ = fs::remove_file(&path);
+    outcome
+}
+
+fn some_file(r: &mut Random, examples: &[Vec<u8>]) -> Vec<u8> {
+    let base = if r.percent(30) { examples[r.below(examples.len())].clone() } else { random_file(r, 60) };
+    match r.below(5) {
+        0 => random_bytes(r),
+        1 | 2 => {
+            let other = random_file(r, 10);
+            damaged(r, &base, &other)
+        }
+        _ => base,
+    }
+}
+
+/// Names that are hard to write in an SVG.
+const NAMES: [&[u8]; 8] = [b"plain.yrd", b"a&b.yrd", b"<svg>.yrd", b"\"quoted\" 'name'", b"&amp;", b"line\nbreak\x01\x7f", b"bytes\xff\xc3.yrd", "für 3\u{202e}".as_bytes()];
+
+fn try_program(program: &str, seconds: u64, seed: u64) -> Result<bool, String> {
+    let mut names: Vec<_> = fs::read_dir("examples").map_err(|e| e.to_string())?.filter_map(|e| Some(e.ok()?.path())).collect();
+    names.retain(|path| path.extension().is_some_and(|e| e == "yrd"));
+    names.sort();
+    let examples: Vec<Vec<u8>> = names.iter().filter_map(|path| fs::read(path).ok()).collect();
+    let (mut passed, mut failed) = (0, 0);
+    let mut case = |name: String, file: &[u8], outcome: Result<(), String>| match outcome {
+        Ok(()) => passed += 1,
+        Err(why) => {
+            let path = format!("target/tests/failed-picture-{failed}.yrd");
+            let kept = fs::write(&path, file).map_or(String::new(), |()| format!(" (the file is {path})"));
+            println!("FAILED {name}: {why}{kept}");
+            failed += 1;
+        }
+    };
+    for (k, name) in NAMES.iter().enumerate() {
+        let file = &examples[k % examples.len()];
+        case(format!("name {k}"), file, tried(program, file, OsString::from_vec(name.to_vec()), None));
+    }
+    println!("tests/picture fuzzing: seed {seed}, {seconds} s");
+    let until = Instant::now() + Duration::from_secs(seconds);
+    for k in (0..).take_while(|_| Instant::now() < until) {
+        let mut r = Random::of_case(seed, k);
+        let file = some_file(&mut r, &examples);
+        let duct = r.percent(30).then(|| r.below(26) as u32);
+        case(format!("seed {seed}, case {k}, duct {duct:?}"), &file, tried(program, &file, "picture.yrd".into(), duct));
+    }
+    println!("tests/picture: {passed} passed, {failed} failed");
+    Ok(failed == 0 && !examples.is_empty())
+}
+
+fn main() -> ExitCode {
+    let words: Vec<String> = std::env::args().skip(1).collect();
+    let number = |k: usize| words.get(k).and_then(|w| w.parse::<u64>().ok());
+    let outcome = match (words.first(), number(1), number(2)) {
+        (Some(program), Some(seconds), Some(seed)) => try_program(program, seconds, seed),
+        _ => Err("the words are a program, a number of seconds and a seed".to_string()),
+    };
+    match outcome {
+        Ok(true) => ExitCode::SUCCESS,
+        Ok(false) => ExitCode::FAILURE,
+        Err(why) => {
+            eprintln!("tests/picture: {why}");
+            ExitCode::FAILURE
+        }
+    }
+}

@@ -1,0 +1,141 @@
+//! Every list of every call lent as NULL with length 0: an empty list, and nothing is stored anywhere.
+
+use crate::abi::*;
+use crate::reference::Book;
+use crate::tables::{Edit, Tables};
+use crate::{same_answer, same_tables, Report};
+use std::ptr::{null, null_mut};
+
+const FILE: &[u8] = b"YRD\x01\x00\x02\x05\x05\x05";
+
+/// The four tables as a call takes them, those whose bit is set as NULL.
+macro_rules! with_tables {
+    ($t:expr, $missing:expr, $f:ident $(, $arg:expr)*) => {{
+        fn lent<T>(table: &mut [T], missing: bool) -> (*mut T, usize) {
+            if missing { (null_mut(), 0) } else { (table.as_mut_ptr(), table.len()) }
+        }
+        let (b, r) = (lent(&mut $t.blocks, $missing & 1 != 0), lent(&mut $t.runs, $missing & 2 != 0));
+        let (p, w) = (lent(&mut $t.pairs, $missing & 4 != 0), lent(&mut $t.routes, $missing & 8 != 0));
+        // Each table is apart, live for the call and as long as stated, or empty.
+        unsafe { $f(b.0, b.1, r.0, r.1, p.0, p.1, w.0, w.1 $(, $arg)*) }
+    }};
+}
+
+/// A yard with block 3 and run 4.
+fn yard() -> Tables {
+    let mut book = Book::new();
+    book.step(&Edit::AddBlock(3, vec![10, 10, 20, 10, 20, 20, 10, 20]));
+    book.step(&Edit::AddRun(4, [0, 15, 30, 15]));
+    book.drawing()
+}
+
+fn tables(report: &mut Report) {
+    for missing in 1..16 {
+        report.case(&format!("tables {missing:04b} NULL"), |calls| {
+            let before = yard();
+            let mut t = before.clone();
+            let corners = [30u16, 30, 40, 30, 40, 40];
+            let answers = [
+                with_tables!(t, missing, yard_start),
+                with_tables!(t, missing, yard_add_block, 0, corners.as_ptr(), corners.len()),
+                with_tables!(t, missing, yard_add_block, 24, null(), 0),
+                with_tables!(t, missing, yard_remove_block, 3),
+                with_tables!(t, missing, yard_move_block, 3, 1, 1),
+                with_tables!(t, missing, yard_add_run, 0, 1, 2, 3, 4),
+                with_tables!(t, missing, yard_remove_run, 4),
+                with_tables!(t, missing, yard_move_run, 4, 1, 2, 3, 4),
+                with_tables!(t, missing, yard_check),
+            ];
+            *calls += answers.len();
+            if answers != [1; 9] {
+                return Err(format!("{answers:?}"));
+            }
+            same_tables("nothing is stored", &t, &before)?;
+            // each edit of a file answers 1 then
+            let (mut list, mut end) = (vec![7; 4096], [7; 2]);
+            let number = with_tables!(t, missing, yard_replay, FILE.as_ptr(), FILE.len(), list.as_mut_ptr(), list.len(), end.as_mut_ptr(), 2);
+            *calls += 1;
+            same_answer("replay", number, 0)?;
+            same_tables("replay", &t, &before)?;
+            let rest = list.split_off(2);
+            if list != [1, 1] || end != [2, 9] || rest.iter().any(|&a| a != 7) { Err(format!("{list:?} {end:?}")) } else { Ok(()) }
+        });
+    }
+}
+
+fn corners(report: &mut Report) {
+    report.case("corners NULL", |calls| {
+        let before = yard();
+        let mut t = before.clone();
+        for (number, answer) in [(0, 6), (23, 6), (3, 4), (24, 3), (u32::MAX, 3)] {
+            same_answer(&format!("block {number}"), with_tables!(t, 0, yard_add_block, number, null(), 0), answer)?;
+            *calls += 1;
+        }
+        same_tables("corners NULL", &t, &before)?;
+        t.blocks[1] += 20;
+        same_answer("over a wrong record", with_tables!(t, 0, yard_add_block, 0, null(), 0), 2)
+    });
+}
+
+fn reading(report: &mut Report) {
+    report.case("file or item NULL", |calls| {
+        let (kept, mut item) = ([7u64; 4], [7u64; 4]);
+        for at in [0, 4, 5, 6, usize::MAX] {
+            same_answer("file", unsafe { yard_read(null(), 0, at, item.as_mut_ptr(), 4) }, 9)?;
+            same_answer("item", unsafe { yard_read(FILE.as_ptr(), FILE.len(), at, null_mut(), 0) }, 1)?;
+            same_answer("both", unsafe { yard_read(null(), 0, at, null_mut(), 0) }, 1)?;
+            *calls += 3;
+        }
+        if item == kept { Ok(()) } else { Err(format!("item {item:?}")) }
+    });
+}
+
+fn replaying(report: &mut Report) {
+    report.case("file, answers or end NULL", |calls| {
+        let before = yard();
+        let mut t = before.clone();
+        let (mut list, mut end) = (vec![7; 4096], [7; 2]);
+        let answers = [
+            with_tables!(t, 0, yard_replay, FILE.as_ptr(), FILE.len(), null_mut(), 0, end.as_mut_ptr(), 2),
+            with_tables!(t, 0, yard_replay, FILE.as_ptr(), FILE.len(), list.as_mut_ptr(), list.len(), null_mut(), 0),
+            with_tables!(t, 0, yard_replay, null(), 0, null_mut(), 0, end.as_mut_ptr(), 2),
+            with_tables!(t, 0, yard_replay, null(), 0, list.as_mut_ptr(), list.len(), null_mut(), 0),
+            with_tables!(t, 15, yard_replay, null(), 0, null_mut(), 0, null_mut(), 0),
+        ];
+        if answers != [1; 5] || end != [7, 7] {
+            return Err(format!("{answers:?}, end {end:?}"));
+        }
+        let number = with_tables!(t, 0, yard_replay, null(), 0, list.as_mut_ptr(), list.len(), end.as_mut_ptr(), 2);
+        *calls += 6;
+        same_answer("file NULL", number, 9)?;
+        same_tables("replays", &t, &before)?;
+        if end == [0, 0] && list == [7; 4096] { Ok(()) } else { Err(format!("end {end:?}")) }
+    });
+}
+
+fn quoting(report: &mut Report) {
+    for missing in 1..16 {
+        report.case(&format!("lists {missing:04b} of a quote NULL"), |calls| {
+            let t = yard();
+            let (mut quote, mut crossings) = ([7u32; 3], vec![7u16; 8712]);
+            let lent = |list: &[u16], bit: u32| if missing & bit != 0 { (null(), 0) } else { (list.as_ptr(), list.len()) };
+            let (b, r) = (lent(&t.blocks, 1), lent(&t.runs, 2));
+            let q = if missing & 4 != 0 { (null_mut(), 0) } else { (quote.as_mut_ptr(), 3) };
+            let c = if missing & 8 != 0 { (null_mut(), 0) } else { (crossings.as_mut_ptr(), crossings.len()) };
+            for run in [4, 0, 24] {
+                *calls += 1;
+                // Each list is apart, live for the call and as long as stated, or empty.
+                same_answer(&format!("run {run}"), unsafe { yard_quote_duct(b.0, b.1, r.0, r.1, run, q.0, q.1, c.0, c.1) }, 1)?;
+            }
+            if quote == [7; 3] && crossings == [7; 8712] { Ok(()) } else { Err(format!("quote {quote:?}")) }
+        });
+    }
+}
+
+pub fn empty_lists(report: &mut Report) {
+    tables(report);
+    corners(report);
+    reading(report);
+    replaying(report);
+    quoting(report);
+}

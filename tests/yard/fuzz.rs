@@ -1,0 +1,31 @@
+//! Random cases of several kinds from a seed, for so many seconds. The seed is printed, and the same one gives the same
+//! cases again.
+
+use crate::degenerate;
+use crate::random::{self, Random, FULL, STYLES};
+use crate::tables::Planner;
+use crate::{random_list, Report};
+use std::time::{Duration, Instant};
+
+fn one(p: &impl Planner, k: u64, r: &mut Random, calls: &mut usize) -> Result<(), String> {
+    match k % 4 {
+        0 => degenerate::one(p, r, calls),
+        #[cfg(not(plain))]
+        1 => crate::replaying::one(r, calls),
+        #[cfg(not(plain))]
+        2 => crate::ducts::one(r, calls),
+        _ => {
+            let s = if r.percent(10) { r.pick(&FULL) } else { r.pick(&STYLES) };
+            let edits = random::list(r, &s, 60);
+            random_list(p, &edits, true, calls)
+        }
+    }
+}
+
+pub fn fuzz(p: &impl Planner, report: &mut Report, seconds: u64, seed: u64) {
+    println!("tests/yard fuzzing: seed {seed}, {seconds} s");
+    let until = Instant::now() + Duration::from_secs(seconds);
+    for k in (0..).take_while(|_| Instant::now() < until) {
+        report.case(&format!("fuzzing, seed {seed}, case {k}"), |calls| one(p, k, &mut Random::of_case(seed, k), calls));
+    }
+}
