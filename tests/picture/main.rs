@@ -19,6 +19,7 @@ mod tables;
 use files::{damaged, random_bytes, random_file};
 use random::Random;
 use reference::Book;
+use std::collections::BTreeSet;
 use std::ffi::OsString;
 use std::fs;
 use std::os::unix::ffi::OsStringExt;
@@ -84,6 +85,30 @@ fn counted(count: usize, word: &str) -> String {
     }
 }
 
+/// The runs that a text at an end names: numbers and ranges.
+fn named(text: &str) -> Vec<usize> {
+    let range = |part: &str| -> Option<Vec<usize>> {
+        let (first, last) = part.split_once('–').unwrap_or((part, part));
+        Some((first.parse().ok()?..=last.parse().ok()?).collect())
+    };
+    text.split(", ").flat_map(|part| range(part).unwrap_or_default()).collect()
+}
+
+/// Every place where runs end says which, unless it takes more than four ranges.
+fn endings_right(book: &Book, all: &[Element]) -> Result<(), String> {
+    let mut due: Vec<Vec<usize>> = vec![];
+    let places: BTreeSet<_> = book.runs.iter().flatten().collect();
+    for place in places {
+        let here: Vec<usize> = (0..24).filter(|&m| book.runs[m].contains(place)).collect();
+        let ranges = here.iter().filter(|&&m| m == 0 || !here.contains(&(m - 1))).count();
+        due.extend((ranges <= 4).then_some(here));
+    }
+    let mut found: Vec<Vec<usize>> = texts(all, "label ending").chain(texts(all, "label ending lost")).map(named).collect();
+    due.sort();
+    found.sort();
+    if due == found { Ok(()) } else { Err(format!("ends of runs {found:?}, should be {due:?}")) }
+}
+
 /// The texts that the page must have for the yard that a file leaves.
 fn said(file: &[u8], all: &[Element], duct: bool) -> Result<(), String> {
     let (edits, stop) = reader::read(file);
@@ -125,7 +150,7 @@ fn said(file: &[u8], all: &[Element], duct: bool) -> Result<(), String> {
             return Err(format!("no label of run {m}: {state}, {cm}, {marks:?}"));
         }
     }
-    Ok(())
+    endings_right(&book, all)
 }
 
 /// A picture of a file under a name, drawn twice.
@@ -168,10 +193,12 @@ fn try_program(program: &str, seconds: u64, seed: u64) -> Result<bool, String> {
     let mut case = |name: String, file: &[u8], outcome: Result<(), String>| match outcome {
         Ok(()) => passed += 1,
         Err(why) => {
-            let path = format!("target/tests/failed-picture-{failed}.yrd");
-            let kept = fs::write(&path, file).map_or(String::new(), |()| format!(" (the file is {path})"));
-            println!("FAILED {name}: {why}{kept}");
             failed += 1;
+            if failed <= 3 {
+                let path = format!("target/tests/failed-picture-{failed}.yrd");
+                let kept = fs::write(&path, file).map_or(String::new(), |()| format!(" (the file is {path})"));
+                println!("FAILED {name}: {why}{kept}");
+            }
         }
     };
     for (k, name) in NAMES.iter().enumerate() {

@@ -1,5 +1,6 @@
 //! Degenerate yards: blocks that are equal, touch, overlap, stand inside one another or have sides on one line, and runs
-//! along them; on a small lattice, and the same stretched so that the largest coordinate is 32,767.
+//! along them; on a small lattice, and the same stretched so that the largest coordinate is 32,767, exactly or with some
+//! coordinates a centimetre off.
 
 use crate::random::{self, good_corners, Random, Style};
 use crate::reference::{convex, Place};
@@ -55,6 +56,17 @@ impl Stretch {
             Edit::MoveRun(m, e) => Edit::MoveRun(*m, ends(e)),
             Edit::RemoveBlock(_) | Edit::RemoveRun(_) => e.clone(),
         }
+    }
+}
+
+/// An edit with some coordinates a centimetre off.
+fn off(r: &mut Random, e: Edit) -> Edit {
+    let mut word = |w: u16| if r.percent(15) && w < 32768 { (i64::from(w) + r.between(-1, 1)).clamp(0, LARGEST) as u16 } else { w };
+    match e {
+        Edit::AddBlock(n, corners) => Edit::AddBlock(n, corners.into_iter().map(word).collect()),
+        Edit::AddRun(m, ends) => Edit::AddRun(m, ends.map(&mut word)),
+        Edit::MoveRun(m, ends) => Edit::MoveRun(m, ends.map(&mut word)),
+        _ => e,
     }
 }
 
@@ -149,7 +161,9 @@ const STYLES: [Style; 4] = [
 pub fn one(p: &impl Planner, r: &mut Random, calls: &mut usize) -> Result<(), String> {
     let s = r.pick(&STYLES);
     let stretch = r.pick(&Stretch::all(s.high));
+    let exact = r.percent(50);
     let edits: Vec<Edit> = list(r, &s).iter().map(|e| stretch.edit(e)).collect();
+    let edits: Vec<Edit> = edits.into_iter().map(|e| if exact { e } else { off(r, e) }).collect();
     random_list(p, &edits, true, calls)
 }
 
@@ -159,10 +173,12 @@ pub fn degenerate(p: &impl Planner, report: &mut Report) {
         for seed in 0..16 {
             let mut r = Random::new(8_000_000 + 1000 * at as u64 + seed);
             // degenerate blocks, or edits of every kind with few places for them
-            let edits = if seed % 4 == 3 { random::list(&mut r, s, 30) } else { list(&mut r, s) };
+            let edits = if seed % 8 > 5 { random::list(&mut r, s, 30) } else { list(&mut r, s) };
             for (k, stretch) in Stretch::all(s.high).iter().enumerate() {
+                let exact = seed % 2 == 0;
                 report.case(&format!("{}, seed {seed}, stretch {k}", s.name), |calls| {
-                    let edits: Vec<Edit> = edits.iter().map(|e| stretch.edit(e)).collect();
+                    let stretched = edits.iter().map(|e| stretch.edit(e));
+                    let edits: Vec<Edit> = stretched.map(|e| if exact { e } else { off(&mut r, e) }).collect();
                     let t = replay(p, &edits, calls)?;
                     bent += t.routes.chunks(197).filter(|words| words[2] > 2).count();
                     reached += t.blocks.iter().filter(|&&w| i64::from(w) == LARGEST).count();
