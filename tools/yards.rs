@@ -12,7 +12,8 @@ mod linked;
 mod tables;
 
 use linked::{quote_duct, replay, Linked};
-use std::io::{ErrorKind, Write};
+use std::fs::File;
+use std::io::{ErrorKind, Read, Write};
 use std::path::Path;
 use std::process::ExitCode;
 use tables::Planner;
@@ -47,9 +48,11 @@ pub fn replayed(file: &[u8]) -> Replayed {
     Replayed { tables, edits: answers.len(), refused, stop: (number != 0).then_some(Stop { number, at }) }
 }
 
-/// The bytes of a file, or why it cannot be read.
+/// The bytes of a file, one more than a yard file may have at most, or why it cannot be read.
 pub fn bytes(path: &Path) -> Result<Vec<u8>, String> {
-    std::fs::read(path).map_err(|e| format!("cannot read the file '{}': {e}", path.display()))
+    let mut bytes = vec![];
+    let read = File::open(path).and_then(|file| file.take(8193).read_to_end(&mut bytes));
+    read.map(|_| bytes).map_err(|e| format!("cannot read the file '{}': {e}", path.display()))
 }
 
 /// Prints what a command made, or one line that says why there is nothing. A reader who closes the pipe has read enough.
