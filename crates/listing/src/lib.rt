@@ -1,136 +1,162 @@
-// The lines of the listing, written to standard output: each answers whether it could be written.
+// The listing of a yard, put byte for byte into a buffer that the caller lends.
 ghost use mathlib.Core.Path.{_≡_};
+ghost use mathlib.Core.List.{_++_};
+ghost use Prim.Native.Nat.{_+_, _*_, _≤_, min};
 ghost use lib.ListN.{length};
-use libc::STDOUT_FILENO;
+ghost use Rattle.listing.specs.Lines.{decimal, labelled, editLine, editLines, stopLine, markTexts, wayText, runLine, runLines, Listed};
+ghost use Rattle.listing.specs.inner.Put.{Put};
 
-fn text(bytes: &[u8]) -> bool {
-    io::write_all(STDOUT_FILENO, bytes)
+// Room for every listing: a number has at most 20 digits, so that 4,096 edits have 54 bytes each, the stop 50, and
+// 24 runs 4,133 each.
+pub const ROOM: usize = 4096 * 54 + 50 + 24 * 4133;
+
+fn least(a: usize, b: usize) -> usize
+    ensures { λ r. ⌜ r ≡ min a b ⌝ }
+{
+    if a < b { a } else { b }
 }
 
-fn number(n: u64) -> bool {
-    io::print_decimal(STDOUT_FILENO, n)
+// Each function below puts bytes into the buffer from a place on, and answers where they end.
+fn put_text(out: &mut [u8], at: usize, text: &[u8]) -> usize
+    requires { ⌜ at + length (now text) ≤ length (now out) ⌝ }
+    ensures { λ r. ⌜ Put (length (now (text .entry))) (now (out .entry)) at (now (text .entry)) (now (out .exit)) r ⌝ }
+{
+    let end = at + text.len();
+    bytes::copy(text, &mut out[at..end]);
+    end
+}
+
+fn put_number(out: &mut [u8], at: usize, n: u64) -> usize
+    requires { ⌜ at + 20 ≤ length (now out) ⌝ }
+    ensures { λ r. ⌜ Put 20 (now (out .entry)) at (decimal n) (now (out .exit)) r ⌝ }
+{
+    let mut digits = [0u8; 20];
+    let k = io::decimal(n, &mut digits);
+    put_text(out, at, &digits[..k])
 }
 
 // A text, then a number.
-fn pair(bytes: &[u8], n: u64) -> bool {
-    if text(bytes) {
-        return number(n);
-    }
-    false
-}
-
-fn edit_line(count: usize, answer: u32) -> bool {
-    if !pair(b"edit ", count as u64) {
-        return false;
-    }
-    if !pair(b" answer ", answer as u64) {
-        return false;
-    }
-    text(b"\n")
-}
-
-// The first count answers.
-pub fn edit_lines(answers: &[u32], count: usize) -> bool {
-    let mut i = 0;
-    while i < answers.len() {
-        if count <= i {
-            return true;
-        }
-        if !edit_line(i + 1, answers[i]) {
-            return false;
-        }
-        i += 1;
-    }
-    true
-}
-
-fn stop_at(number: u32, at: usize) -> bool {
-    if !pair(b"stop ", number as u64) {
-        return false;
-    }
-    if !pair(b" at ", at as u64) {
-        return false;
-    }
-    text(b"\n")
-}
-
-// Nothing where the file ended; a 9 stands at 0.
-pub fn stop_line(number: u32, at: usize) -> bool {
-    if number == 0 {
-        return true;
-    }
-    if number == 9 {
-        return stop_at(9, 0);
-    }
-    stop_at(number, at)
-}
-
-fn mark(n: u32) -> bool {
-    pair(b" ", n as u64)
-}
-
-// The first count marks.
-fn marks(words: &[u32], count: u32) -> bool {
-    let mut i = 0;
-    while i < words.len() {
-        if count as usize <= i {
-            return true;
-        }
-        if !mark(words[i]) {
-            return false;
-        }
-        i += 1;
-    }
-    true
-}
-
-fn length_of(n: u32) -> bool {
-    if !pair(b" length ", n as u64) {
-        return false;
-    }
-    text(b" marks")
-}
-
-fn way(words: &[u32]) -> bool
-    requires { ⌜ length (now words) ≡ 197 ⌝ }
+fn put_labelled(out: &mut [u8], at: usize, text: &[u8], n: u64) -> usize
+    requires { ⌜ at + (length (now text) + 20) ≤ length (now out) ⌝ }
+    ensures { λ r. ⌜ Put (length (now (text .entry)) + 20) (now (out .entry)) at (now (text .entry) ++ decimal n) (now (out .exit)) r ⌝ }
 {
-    if !length_of(words[1]) {
-        return false;
-    }
-    if !marks(&words[3..], words[2]) {
-        return false;
-    }
-    text(b"\n")
+    let end = put_text(out, at, text);
+    put_number(out, end, n)
 }
 
-// The line of run m, from its route record; nothing where the run is absent.
-fn run_line(m: usize, words: &[u32]) -> bool
-    requires { ⌜ length (now words) ≡ 197 ⌝ }
+fn put_edit(out: &mut [u8], at: usize, count: usize, answer: u32) -> usize
+    requires { ⌜ at + 54 ≤ length (now out) ⌝ }
+    ensures { λ r. ⌜ Put 54 (now (out .entry)) at (editLine count answer) (now (out .exit)) r ⌝ }
+{
+    let counted = put_labelled(out, at, b"edit ", count as u64);
+    let answered = put_labelled(out, counted, b" answer ", answer as u64);
+    put_text(out, answered, b"\n")
+}
+
+// The first answers, as many as the count says and there are.
+fn put_edits(out: &mut [u8], answers: &[u32], count: usize) -> usize
+    requires { ⌜ 54 * length (now answers) ≤ length (now out) ⌝ }
+    ensures { λ r. ⌜ Put (54 * length (now (answers .entry))) (now (out .entry)) 0
+        (editLines (now (answers .entry)) count) (now (out .exit)) r ⌝ }
+{
+    let n = least(count, answers.len());
+    let mut end = 0;
+    let mut i = 0;
+    while i < n {
+        end = put_edit(out, end, i + 1, answers[i]);
+        i += 1;
+    }
+    end
+}
+
+// Nothing where the number is 0.
+fn put_stop(out: &mut [u8], at: usize, number: u32, place: usize) -> usize
+    requires { ⌜ at + 50 ≤ length (now out) ⌝ }
+    ensures { λ r. ⌜ Put 50 (now (out .entry)) at (stopLine number place) (now (out .exit)) r ⌝ }
+{
+    if number == 0 {
+        return at;
+    }
+    let stopped = put_labelled(out, at, b"stop ", number as u64);
+    let placed = put_labelled(out, stopped, b" at ", place as u64);
+    put_text(out, placed, b"\n")
+}
+
+fn put_mark(out: &mut [u8], at: usize, mark: u32) -> usize
+    requires { ⌜ at + 21 ≤ length (now out) ⌝ }
+    ensures { λ r. ⌜ Put 21 (now (out .entry)) at (labelled " " mark) (now (out .exit)) r ⌝ }
+{
+    put_labelled(out, at, b" ", mark as u64)
+}
+
+// The marks of a route record, as many as its count says and it has room for.
+fn put_marks(out: &mut [u8], at: usize, words: &[u32]) -> usize
+    requires { ⌜ (length (now words) ≡ 197) × (at + 21 * 194 ≤ length (now out)) ⌝ }
+    ensures { λ r. ⌜ Put (21 * 194) (now (out .entry)) at (markTexts (now (words .entry))) (now (out .exit)) r ⌝ }
+{
+    let n = least(words[2] as usize, 194);
+    let mut end = at;
+    let mut k = 0;
+    while k < n {
+        end = put_mark(out, end, words[3 + k]);
+        k += 1;
+    }
+    end
+}
+
+fn put_way(out: &mut [u8], at: usize, words: &[u32]) -> usize
+    requires { ⌜ (length (now words) ≡ 197) × (at + 4109 ≤ length (now out)) ⌝ }
+    ensures { λ r. ⌜ Put 4109 (now (out .entry)) at (wayText (now (words .entry))) (now (out .exit)) r ⌝ }
+{
+    let measured = put_labelled(out, at, b" length ", words[1] as u64);
+    let started = put_text(out, measured, b" marks");
+    let marked = put_marks(out, started, words);
+    put_text(out, marked, b"\n")
+}
+
+// The line of run m from its route record, nothing where the run is absent.
+fn put_run(out: &mut [u8], at: usize, m: usize, words: &[u32]) -> usize
+    requires { ⌜ (length (now words) ≡ 197) × (at + 4133 ≤ length (now out)) ⌝ }
+    ensures { λ r. ⌜ Put 4133 (now (out .entry)) at (runLine m (now (words .entry))) (now (out .exit)) r ⌝ }
 {
     let state = words[0];
     if state == 0 {
-        return true;
+        return at;
     }
-    if !pair(b"run ", m as u64) {
-        return false;
-    }
+    let named = put_labelled(out, at, b"run ", m as u64);
     if state == 1 {
-        return way(words);
+        return put_way(out, named, words);
     }
-    text(b" no way\n")
+    put_text(out, named, b" no way\n")
 }
 
-pub fn run_lines(routes: &[u32]) -> bool
-    requires { ⌜ length (now routes) ≡ 4728 ⌝ }
+fn put_runs(out: &mut [u8], at: usize, routes: &[u32]) -> usize
+    requires { ⌜ (length (now routes) ≡ 4728) × (at + 4133 * 24 ≤ length (now out)) ⌝ }
+    ensures { λ r. ⌜ Put (4133 * 24) (now (out .entry)) at (runLines (now (routes .entry))) (now (out .exit)) r ⌝ }
 {
+    let mut end = at;
     let mut m = 0;
     while m < 24 {
-        let at = 197 * m;
-        let end = at + 197;
-        if !run_line(m, &routes[at..end]) {
-            return false;
-        }
+        let first = 197 * m;
+        let past = first + 197;
+        end = put_run(out, end, m, &routes[first..past]);
         m += 1;
     }
-    true
+    end
+}
+
+// The whole listing, put at the start of the buffer: answers how many bytes it has.
+pub fn list(
+    out: &mut [u8; ROOM],
+    answers: &[u32; 4096],
+    count: usize,
+    number: u32,
+    at: usize,
+    routes: &[u32; 4728],
+) -> usize
+    ensures { λ r. ⌜ Listed (now (answers .entry)) count number at (now (routes .entry)) (now (out .entry)) (now (out .exit)) r ⌝ }
+{
+    let edits_end = put_edits(out, answers, count);
+    let stop_end = put_stop(out, edits_end, number, at);
+    put_runs(out, stop_end, routes)
 }

@@ -1,0 +1,5 @@
+pub mod Decimals
+pub mod Putting
+pub mod Cases
+pub mod Unique
+pub mod Examples
