@@ -1,7 +1,6 @@
--- The definition computed: the example of docs/RULES.md, a run with no way, and two stops.
+-- The definition computed: the listing of examples/document.yrd, one with a stop and a run that has no way, and that of no yard file.
 use mathlib.Core.Path.{_≡_, refl}
-use mathlib.Core.List.{List, [], _∷_, _++_}
-use Prim.Native.Nat.{ℕ}
+use mathlib.Core.List.{[], _∷_, _++_}
 use lib.ListN.{replicate}
 use Rattle.listing.specs.Lines.{bytes, digitsWithin, decimal, labelled, joined, editLine, stopLine, wayText, runLine, listing}
 

@@ -1,24 +1,19 @@
--- Bytes put into a buffer one after the other.
+-- Bytes put into a buffer one after the other, up to the whole listing.
 use mathlib.Core.Path.{_≡_, refl, sym, ap, ap₂, _∙_, subst}
-use mathlib.Core.List.{List, [], _∷_, _++_, append-assoc, append-nil}
-use Prim.Native.Nat.{ℕ, zero, suc, _+_, _*_, _-_, _≤_, _<_}
+use mathlib.Core.List.{List, [], _++_, append-assoc, append-nil}
+use Prim.Native.Nat.{ℕ, _+_, _*_, _-_, _≤_}
 use native.Mathlib.Numerals.{add-one}
 use native.Mathlib.Omega.{arith}
-use lib.ListN.{length, take, drop, length-append, length-take, length-drop, take-append-drop, drop-of-length-le}
+use lib.ListN.{length, take, drop, length-append, length-take, take-append-drop, drop-of-length-le}
 use lib.Seq.{take-length, length-take-le, take-at, drop-at, drop-drop}
-use borrow.Rule.Slice.PartMut.{putMid, same-len-mid}
+use borrow.Rule.Slice.PartMut.{putMid}
 use Rattle.lists.specs.Lists.{splice}
 use Rattle.lists.proofs.Copies.{put-back}
+use Rattle.tables.proofs.Splices.{splice-length}
 use Rattle.listing.specs.Lines.{joined, listing, Listed}
 use Rattle.listing.specs.inner.Put.{Put}
 
--- before the place, the bytes, behind them
-splice-length : (old : List ℕ) (at : ℕ) (a : List ℕ) → at + length a ≤ length old → length (splice old at a) ≡ length old
-unfolding splice
-splice-length old at a l =
-    rw (length-append (take at old) (a ++ drop (at + length a) old), length-append a (drop (at + length a) old), length-take at old, length-drop (at + length a) old)
-    (omega arith)
-
+-- ---- a part of a list replaced: nothing, what stands up to its end and from there on, and the part behind it replaced too
 splice-none : (old : List ℕ) (at : ℕ) → old ≡ splice old at []
 unfolding splice
 splice-none old at = let q : at + 0 ≡ at = omega arith in rw q (sym (take-append-drop at old))
@@ -43,6 +38,7 @@ splice-splice old at a b l =
     ∙ append-assoc (take at old) a _
     ∙ ap (λ (y : List ℕ). take at old ++ y) (sym (append-assoc a b _))
 
+-- ---- bytes put into a buffer
 pub put-none : {old : List ℕ} {at : ℕ} → at ≤ length old → Put 0 old at [] old at
 put-none {old} {at} l = record { few = omega arith; ends = omega arith; inside = l; sized = refl; is = splice-none old at }
 

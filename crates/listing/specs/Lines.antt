@@ -1,4 +1,4 @@
--- The listing that yardlist prints, byte for byte. docs/RULES.md, "Listing". What C's write does with the bytes is outside any contract.
+-- The listing that yardlist prints, byte for byte. Rule 32. What C's write does with the bytes is outside any contract.
 use mathlib.Core.Path.{_≡_}
 use mathlib.Core.List.{List, [], _∷_, _++_}
 use mathlib.Core.Bool.{cond}
@@ -59,6 +59,7 @@ wayText ws = labelled " length " (word ws 1) ++ bytes " marks" ++ markTexts ws +
 unfoldable pub runLine : ℕ → List ℕ → List ℕ
 runLine m ws = cond (eqb (word ws 0) 0) [] (labelled "run " m ++ cond (eqb (word ws 0) 1) (wayText ws) (bytes " no way\n"))
 
+-- the 24 runs, lowest first
 abbrev pub runLines : List ℕ → List ℕ
 runLines routes = joined 24 (λ m. runLine m (routeWords routes m))
 

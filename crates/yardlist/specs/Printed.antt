@@ -1,4 +1,4 @@
--- What yardlist writes for the yard file that it reads. docs/RULES.md, "Listing".
+-- What yardlist writes for the yard file that it reads. Rules 31 and 32.
 use mathlib.Core.List.{List}
 use Prim.Native.Nat.{ℕ}
 use lib.ListN.{replicate}
