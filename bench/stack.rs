@@ -1,5 +1,5 @@
-//! The greatest depth of stack inside each call, against what `include/yard.h` has its user reserve: the call runs on a
-//! stack painted beforehand.
+//! The greatest depth of stack inside each call, against the figures of `include/yard.h` and what it has its user
+//! reserve: the call runs on a stack painted beforehand.
 
 use crate::{abi::*, displacements, ducts, Grid, Tables, CROWDED};
 use std::arch::asm;
@@ -14,6 +14,7 @@ struct Job<'a> {
 
 #[derive(Clone)]
 enum Call {
+    Nothing,
     Start,
     AddBlock(Vec<u16>),
     RemoveBlock,
@@ -38,6 +39,7 @@ extern "C" fn perform(job: *mut Job) {
     let (p, pl, w, wl) = (t.pairs.as_mut_ptr(), t.pairs.len(), t.routes.as_mut_ptr(), t.routes.len());
     let answer = unsafe {
         match &mut job.call {
+            Call::Nothing => 0,
             Call::Start => yard_start(b, bl, r, rl, p, pl, w, wl),
             Call::AddBlock(c) => yard_add_block(b, bl, r, rl, p, pl, w, wl, NUMBER, c.as_ptr(), c.len()),
             Call::RemoveBlock => yard_remove_block(b, bl, r, rl, p, pl, w, wl, NUMBER),
@@ -138,27 +140,40 @@ fn calls() -> [(&'static str, Vec<(Tables, Call)>); 9] {
     ]
 }
 
-/// The KiB that the header has its user reserve, in its order: for a call, then for the duct quote.
-fn reserves(header: &str) -> Vec<usize> {
+/// What the header says: the KiB that its user is to reserve, for a call and for the duct quote, and the bytes that were
+/// measured, of a call, of a replay and of the duct quote.
+fn said(header: &str) -> (Vec<usize>, Vec<usize>) {
     let words: Vec<&str> = header.split_whitespace().filter(|&w| w != "*").collect();
     let reserve = |w: &[&str]| (w[0] == "reserve" && w[2].starts_with("KiB")).then(|| w[1].parse().ok())?;
-    words.windows(3).filter_map(reserve).collect()
+    let figure = |w: &[&str]| w[1].starts_with("bytes").then(|| w[0].strip_prefix('(')?.replace(',', "").parse().ok())?;
+    (words.windows(3).filter_map(reserve).collect(), words.windows(2).filter_map(figure).collect())
 }
 
-/// Prints the depths, and stops where one does not fit what is promised.
+/// Prints the depths, and stops where one is not as the header promises.
 pub fn print() {
     let header = std::fs::read_to_string("include/yard.h").expect("include/yard.h");
-    let [call, quote] = reserves(&header)[..] else { panic!("include/yard.h reserves not two stacks: {:?}", reserves(&header)) };
-    println!("greatest depth of stack of a call, bytes, its caller's small frame included, over the crowded yard");
-    let depths = calls().map(|(name, calls)| (name, greatest(&calls)));
+    let (reserves, figures) = said(&header);
+    let ([reserve, quote_reserve], [figure, replay_figure, quote_figure]) = (&reserves[..], &figures[..]) else {
+        panic!("include/yard.h should reserve two stacks and give three figures: {reserves:?}, {figures:?}")
+    };
+    let frame = greatest(&[(CROWDED.tables(), Call::Nothing)]);
+    println!("greatest depth of stack of a call, bytes, over the crowded yard");
+    let depths = calls().map(|(name, calls)| (name, greatest(&calls) - frame));
     depths.iter().for_each(|(name, bytes)| println!("{name:<18} {bytes:>6}"));
-    assert!(depths.iter().all(|d| d.1 <= call << 10), "a call takes more than the {call} KiB of stack that the header reserves");
     let most = depths[..8].iter().map(|d| d.1).max().unwrap_or(0);
+    let replay = depths[8].1;
+    let duct = |y: &ducts::Yard| (y.tables(), Call::QuoteDuct([0; ducts::QUOTE], vec![0; ducts::CROSSINGS]));
+    let quote = greatest(&ducts::YARDS.iter().map(duct).collect::<Vec<_>>()) - frame;
+    println!("{:<18} {quote:>6} over the yards of the duct quote", "yard_quote_duct");
     println!("tables {TABLES} + stack {most} of a panel's calls = {} bytes, to stay below {PANEL}", TABLES + most);
     assert!(TABLES + most < PANEL, "a panel's call takes too much stack");
-    let duct = |y: &ducts::Yard| (y.tables(), Call::QuoteDuct([0; ducts::QUOTE], vec![0; ducts::CROSSINGS]));
-    let bytes = greatest(&ducts::YARDS.iter().map(duct).collect::<Vec<_>>());
-    println!("{:<18} {bytes:>6} over the yards of the duct quote", "yard_quote_duct");
-    assert!(bytes <= quote << 10, "the duct quote takes more than the {quote} KiB of stack that the header reserves");
-    println!("tests/stack: within the {call} and the {quote} KiB that include/yard.h reserves");
+    for (what, bytes, figure, reserve) in [
+        ("a call", most, figure, reserve),
+        ("a replay", replay, replay_figure, reserve),
+        ("a duct's quote", quote, quote_figure, quote_reserve),
+    ] {
+        assert!(bytes <= *figure, "{what} takes {bytes} bytes of stack, include/yard.h says {figure}");
+        assert!(bytes <= reserve << 10, "{what} takes {bytes} bytes of stack, include/yard.h reserves {reserve} KiB");
+    }
+    println!("tests/stack: within the {figure}, {replay_figure} and {quote_figure} bytes of include/yard.h");
 }
