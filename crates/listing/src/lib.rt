@@ -3,7 +3,7 @@ ghost use mathlib.Core.Path.{_≡_};
 ghost use mathlib.Core.List.{_++_};
 ghost use Prim.Native.Nat.{_+_, _*_, _≤_, min};
 ghost use lib.ListN.{length};
-ghost use Rattle.listing.specs.Lines.{decimal, labelled, editLine, editLines, stopLine, markTexts, wayText, runLine, runLines, Listed};
+ghost use Rattle.listing.specs.Lines.{bytes, decimal, labelled, editLine, editLines, stopLine, markTexts, wayText, runLine, runLines, Listed};
 ghost use Rattle.listing.specs.inner.Put.{Put};
 
 // Room for every listing: a number has at most 20 digits, so that 4,096 edits have 54 bytes each, the stop 50, and
@@ -44,13 +44,22 @@ fn put_labelled(out: &mut [u8], at: usize, text: &[u8], n: u64) -> usize
     put_number(out, end, n)
 }
 
+// A line of two texts, each with a number behind it.
+fn put_line(out: &mut [u8], at: usize, text: &[u8], n: u64, other: &[u8], m: u64) -> usize
+    requires { ⌜ at + (length (now text) + 20 + (length (now other) + 20) + 1) ≤ length (now out) ⌝ }
+    ensures { λ r. ⌜ Put (length (now (text .entry)) + 20 + (length (now (other .entry)) + 20) + 1) (now (out .entry)) at
+        ((now (text .entry) ++ decimal n) ++ (now (other .entry) ++ decimal m) ++ bytes "\n") (now (out .exit)) r ⌝ }
+{
+    let first = put_labelled(out, at, text, n);
+    let second = put_labelled(out, first, other, m);
+    put_text(out, second, b"\n")
+}
+
 fn put_edit(out: &mut [u8], at: usize, count: usize, answer: u32) -> usize
     requires { ⌜ at + 54 ≤ length (now out) ⌝ }
     ensures { λ r. ⌜ Put 54 (now (out .entry)) at (editLine count answer) (now (out .exit)) r ⌝ }
 {
-    let counted = put_labelled(out, at, b"edit ", count as u64);
-    let answered = put_labelled(out, counted, b" answer ", answer as u64);
-    put_text(out, answered, b"\n")
+    put_line(out, at, b"edit ", count as u64, b" answer ", answer as u64)
 }
 
 // The first answers, as many as the count says and there are.
@@ -77,9 +86,7 @@ fn put_stop(out: &mut [u8], at: usize, number: u32, place: usize) -> usize
     if number == 0 {
         return at;
     }
-    let stopped = put_labelled(out, at, b"stop ", number as u64);
-    let placed = put_labelled(out, stopped, b" at ", place as u64);
-    put_text(out, placed, b"\n")
+    put_line(out, at, b"stop ", number as u64, b" at ", place as u64)
 }
 
 fn put_mark(out: &mut [u8], at: usize, mark: u32) -> usize

@@ -1,7 +1,7 @@
 use native.Mathlib.Omega.{arith}
 use Rattle.listing.specs.Lines.{labelled}
 use Rattle.listing.proofs.Cases.{stop-none, stop-line}
-use Rattle.listing.proofs.Putting.{put-none, put-loose, put-as, put-then}
+use Rattle.listing.proofs.Putting.{put-none, put-loose, put-as}
 use borrow.Author.Needs.{needs}
 use Rattle.listing.proofs.put_stop.Statement.{statement}
 use Rattle.listing.proofs.put_stop.Tie as tie
@@ -11,10 +11,7 @@ returns c = put-loose (omega arith) (put-as (stop-none _ _ (c .if1 .taken)) (put
 
 returns-2 : tie.Need-returns-2
 unfolding labelled
-returns-2 c =
-    put-as (stop-line _ _ (c .before .before .before .before .before .before .before .before .before .before .before .before .before .before .before .if1 .left))
-    (put-then (put-then (c .before .before .before .before .before .before .before .before .before .before .before .before .put-labelled .ensures) (c .before .before .before .before .before .before .before .put-labelled2 .ensures))
-    (c .before .before .put-text .ensures))
+returns-2 c = put-as (stop-line _ _ (c .before .before .before .before .before .before .if1 .left)) (c .before .before .put-line .ensures)
 
 pub put-stop-spec : {M : Type 1} → statement M
 put-stop-spec =
@@ -22,9 +19,6 @@ put-stop-spec =
     (tie.spec
     returns
     (λ c. search needs)
-    (λ c κs. search needs)
-    (λ c. search needs)
-    (λ c κs. search needs)
     (λ c. search needs)
     (λ c κs. search needs)
     (λ c. search needs)
