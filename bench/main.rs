@@ -9,17 +9,13 @@ mod graphviz;
 #[allow(dead_code)]
 mod plain;
 mod stack;
+#[path = "../bindings/tables.rs"]
+#[allow(dead_code)]
+mod tables;
 
 use plain::{Yard, BLOCKS, PAIRS, ROUTES, RUNS};
 use std::time::Instant;
-
-#[derive(Clone, PartialEq, Eq)]
-pub struct Tables {
-    pub blocks: Vec<u16>,
-    pub runs: Vec<u16>,
-    pub pairs: Vec<u8>,
-    pub routes: Vec<u32>,
-}
+pub use tables::Tables;
 
 impl Tables {
     pub fn yard(&mut self) -> Yard<'_> {
