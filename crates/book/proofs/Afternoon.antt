@@ -17,12 +17,13 @@ use Rattle.routing.specs.Routes.{RouteIs, noRun, found, noWay}
 use Rattle.book.specs.Questions.{firstNo}
 use Rattle.book.specs.Book.{Edit, addRun, emptyBook, free, questions, answer, written, step, target, afterAll}
 use Rattle.book.specs.Drawing.{Drawn}
-use Rattle.book.specs.Edits.{Called, Checked, started}
+use Rattle.book.specs.Edits.{answerOver, Called, Checked, started}
 use Rattle.book.specs.History.{Calls, noCalls, call, MayRewrite}
 use Rattle.book.proofs.Sound.{empty-sound, all-sound, none-there}
 use Rattle.book.proofs.Demand3.{drawn-answer, started-drawn, calls-drawn}
 use Rattle.book.proofs.Rewrites.{rewrites-only}
 use Rattle.book.proofs.Checks.{drawn-checks}
+use Rattle.book.proofs.Outcomes.{called-exists}
 use Rattle.book.proofs.Bare.{flag, second-absent, second-clear, there, lone-length}
 
 -- a program: the number that it gives and the tables that it leaves, for each edit over any tables
@@ -33,6 +34,10 @@ pub record Program : Type 0 where
 -- it meets the contract of each call
 abbrev pub Meets : Program → Type 0
 Meets p = (e : Edit) (T : Tables) → Called e T (p .number e T) (p .leaves e T)
+
+-- there is one, so that what follows is about something
+pub meets-exists : (p : Program) × Meets p
+meets-exists = (record { number = λ e T. answerOver T e; leaves = λ e T. called-exists e T .0 }, λ e T. called-exists e T .1)
 
 -- the tables after a start and some edits
 abbrev pub after : Program → List Edit → Tables → Tables

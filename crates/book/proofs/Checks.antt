@@ -2,22 +2,18 @@
 use mathlib.Core.Path.{_≡_, sym}
 use mathlib.Core.Logic.{_⊎_, inl, inr}
 use mathlib.Core.List.{List}
-use Prim.Native.Nat.{ℕ, _*_}
+use Prim.Native.Nat.{ℕ}
 use native.Mathlib.Decide.{ℕ-discrete}
 use native.Mathlib.Omega.{arith}
-use Rattle.geometry.specs.Words.{blockWords}
-use Rattle.tables.specs.Tables.{Tables, records, runWords}
-use Rattle.tables.proofs.Splices.{part-length}
-use Rattle.records.proofs.Fits.{block-allowed, run-allowed}
-use Rattle.records.proofs.Places.{BlockPlace, vacant, RunPlace, unused, block-again, block-place, run-again, run-place}
+use Rattle.tables.specs.Tables.{Tables, records}
 use Rattle.book.specs.Questions.{firstNo}
 use Rattle.book.specs.Book.{Edit, Book, emptyBook, answers, afterAll}
 use Rattle.book.specs.Drawing.{Right, Drawn}
 use Rattle.book.specs.Edits.{bookOf, fitness, Started, Checked}
 use Rattle.book.specs.History.{Calls}
 use Rattle.book.proofs.Questions.{fitting}
-use Rattle.book.proofs.Stored.{book-block, book-run, upTo-length, upTo-each}
 use Rattle.book.proofs.Sound.{Sound, empty-sound, all-sound}
+use Rattle.book.proofs.Fitting.{fitting-sound, fitting-drawn}
 use Rattle.book.proofs.Demand3.{drawn-lengths, drawn-records, calls-drawn, demand3}
 
 pub drawn-checks : (b : Book) (T : Tables) (r : ℕ) → Sound b → Drawn b T → Checked T r → r ≡ 0
@@ -36,44 +32,25 @@ pub history-checks : (T₀ T T′ : Tables) (es : List Edit) (rs : List ℕ) (r 
 history-checks T₀ T T′ es rs r st cs =
     drawn-checks (afterAll emptyBook es) T′ r (all-sound emptyBook es empty-sound) (demand3 T₀ T T′ es rs st cs .1)
 
--- a yard that the check answers 0 is the drawing of the book that its records write
-pub checked-drawn : (T : Tables) → Checked T 0 → Drawn (bookOf (records T)) T
-checked-drawn T c = go (ℕ-discrete (fitness T) 0)
+-- a yard that the check answers 0 has passed questions 1 and 2
+checked-fits : (T : Tables) → Checked T 0 → fitness T ≡ 0
+checked-fits T c = go (ℕ-discrete (fitness T) 0)
   where
-    go : Dec (fitness T ≡ 0) → Drawn (bookOf (records T)) T
+    go : Dec (fitness T ≡ 0) → fitness T ≡ 0
+    go (yes z) = z
     go (no z) = absurd (z (sym (c .unfit z)))
-    go (yes z) =
-        let f = fitting T z in
-        let s = f .sized in
-        record {
-          sizes = (s .blocks, s .runs, s .pairs, s .routes);
-          blocks = λ n l. rw (book-block (records T) n l)
-              (block-again (blockWords (T .blocks) n) (part-length (T .blocks) (17 * n) 17 (omega arith)) (block-allowed (records T) (s .blocks) (s .runs) (f .right) n l));
-          runs = λ m l. rw (book-run (records T) m l)
-              (run-again (runWords (T .runs) m) (part-length (T .runs) (5 * m) 5 (omega arith)) (run-allowed (records T) (s .blocks) (s .runs) (f .right) m l));
-          right = right-of (c .fit z);
-        }
-      where
-        right-of : (_≡_ {A = ℕ} 0 0 × Right T) ⊎ (_≡_ {A = ℕ} 0 11 × (Right T → ⊥)) → Right T
-        right-of (inl a) = a .1
-        right-of (inr a) = absurd (omega (arith, a .0))
+
+-- it is the drawing of the book that its records write
+pub checked-drawn : (T : Tables) → Checked T 0 → Drawn (bookOf (records T)) T
+checked-drawn T c = let z = checked-fits T c in fitting-drawn T (fitting T z) (right-of (c .fit z))
+  where
+    right-of : (_≡_ {A = ℕ} 0 0 × Right T) ⊎ (_≡_ {A = ℕ} 0 11 × (Right T → ⊥)) → Right T
+    right-of (inl a) = a .1
+    right-of (inr a) = absurd (omega (arith, a .0))
 
 -- and that book is sound, so that calls from there go on as from a start: this is how a panel that loads its tables begins
 pub checked-sound : (T : Tables) → Checked T 0 → Sound (bookOf (records T))
-unfolding bookOf
-checked-sound T c = go (ℕ-discrete (fitness T) 0)
-  where
-    go : Dec (fitness T ≡ 0) → Sound (bookOf (records T))
-    go (no z) = absurd (z (sym (c .unfit z)))
-    go (yes z) =
-        let f = fitting T z in
-        let s = f .sized in
-        record {
-          blockCount = upTo-length 24 _;
-          runCount = upTo-length 24 _;
-          blocks = λ n. upTo-each 24 _ BlockPlace vacant (λ k l. block-place _ (block-allowed (records T) (s .blocks) (s .runs) (f .right) k l)) n;
-          runs = λ m. upTo-each 24 _ RunPlace unused (λ k l. run-place _ (run-allowed (records T) (s .blocks) (s .runs) (f .right) k l)) m;
-        }
+checked-sound T c = fitting-sound T (fitting T (checked-fits T c))
 
 -- tables that the check answers 0, wherever they come from, then any list of edits: the answers of that book, and the drawing of what it becomes
 pub checked-calls : (T T′ : Tables) (es : List Edit) (rs : List ℕ) → Checked T 0 → Calls es T rs T′

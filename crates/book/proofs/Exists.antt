@@ -29,7 +29,7 @@ places-dec R v u = go (pair-exists R v u .0) (pair-exists R v u .1)
     go b (hidden e l h m) = no (λ c. c .1 .seen b l h)
 
 -- a run's record begins with 0 or 1
-run-flag : (ps : List Point) → RunPlace ps → (word (runRecord ps) 0 ≡ 0) ⊎ (word (runRecord ps) 0 ≡ 1)
+pub run-flag : (ps : List Point) → RunPlace ps → (word (runRecord ps) 0 ≡ 0) ⊎ (word (runRecord ps) 0 ≡ 1)
 unfolding runRecord
 run-flag ps unused = inl refl
 run-flag ps (two h) = inr refl

@@ -1,11 +1,13 @@
 pub mod Questions
 pub mod Stored
 pub mod Sound
+pub mod Fitting
 pub mod Rerouting
 pub mod Demand3
 pub mod Rewrites
 pub mod Unique
 pub mod Checks
 pub mod Exists
+pub mod Outcomes
 pub mod Bare
 pub mod Afternoon

@@ -1,13 +1,16 @@
--- Every two marks have a byte.
+-- Every two marks have a byte, and every pair table one that an edit makes of it.
 use mathlib.Core.Path.{_≡_, refl}
 use mathlib.Core.Logic.{_⊎_, inl, inr}
-use mathlib.Core.Bool.{Bool, true, false}
+use mathlib.Core.Bool.{Bool, true, false, Bool-discrete}
+use mathlib.Core.List.{List}
 use Prim.Native.Nat.{ℕ, zero, suc, _<_}
 use native.Mathlib.Omega.{arith}
 use native.Mathlib.Decide.{decLt}
-use Rattle.tables.specs.Tables.{Records}
-use Rattle.visibility.specs.Visibility.{Hides, bothPresent, PairIs, absent, clear, hidden}
-use Rattle.visibility.proofs.Lasting.{hides-dec}
+use Rattle.geometry.specs.Words.{word}
+use Rattle.tables.specs.Tables.{Records, OnRun, pairIndex}
+use Rattle.tables.proofs.Joined.{PairTable, pairs-exist}
+use Rattle.visibility.specs.Visibility.{Hides, bothPresent, PairIs, absent, clear, hidden, Afresh, BlockPair, RunPair, BlockRedrawn, RunRedrawn}
+use Rattle.visibility.proofs.Lasting.{onRun-dec, hides-dec, afresh-dec}
 
 abbrev NoneBelow : (ℕ → Type 0) → ℕ → Type 0
 NoneBelow P n = (k : ℕ) → k < n → P k → ⊥
@@ -36,3 +39,47 @@ pair-exists R i j = go (bothPresent R i j) refl (lowest-or-none _ (λ n. hides-d
     go false e s = (255, absent e refl)
     go true e (inl f) = (f .0, hidden e (f .1) (f .2) (f .3))
     go true e (inr none) = (254, clear e (record { seen = none }) refl)
+
+blockPair-exists : (R : Records) (n i j old : ℕ) → (b : ℕ) × BlockPair R n i j old b
+blockPair-exists R n i j old = go (afresh-dec n i j old)
+  where
+    keep : (Afresh n i j old → ⊥) → (bothPresent R i j ≡ true → n < old → Hides R n i j → ⊥) → (b : ℕ) × BlockPair R n i j old b
+    keep f k = (old, record { fresh = λ a. absurd (f a); covered = λ g e l h. absurd (k e l h); kept = λ g c. refl })
+
+    off : (Afresh n i j old → ⊥) → Dec (bothPresent R i j ≡ true) → Dec (n < old) → Dec (Hides R n i j) → (b : ℕ) × BlockPair R n i j old b
+    off f (no e) l h = keep f (λ t m x. e t)
+    off f (yes e) (no l) h = keep f (λ t m x. l m)
+    off f (yes e) (yes l) (no h) = keep f (λ t m x. h x)
+    off f (yes e) (yes l) (yes h) = (n, record { fresh = λ a. absurd (f a); covered = λ g t m x. refl; kept = λ g c. absurd (c e l h) })
+
+    go : Dec (Afresh n i j old) → (b : ℕ) × BlockPair R n i j old b
+    go (yes a) = let p = pair-exists R i j in (p .0, record { fresh = λ _. p .1; covered = λ g e l h. absurd (g a); kept = λ g c. absurd (g a) })
+    go (no a) = off a (Bool-discrete (bothPresent R i j) true) (decLt n old) (hides-dec R n i j)
+
+runPair-exists : (R : Records) (m i j old : ℕ) → (b : ℕ) × RunPair R m i j old b
+runPair-exists R m i j old = go (onRun-dec m i) (onRun-dec m j)
+  where
+    afresh : OnRun m i ⊎ OnRun m j → (b : ℕ) × RunPair R m i j old b
+    afresh (inl h) = let p = pair-exists R i j in (p .0, record { fresh = λ _. p .1; kept = λ f g. absurd (f h) })
+    afresh (inr h) = let p = pair-exists R i j in (p .0, record { fresh = λ _. p .1; kept = λ f g. absurd (g h) })
+
+    go : Dec (OnRun m i) → Dec (OnRun m j) → (b : ℕ) × RunPair R m i j old b
+    go (yes h) d = afresh (inl h)
+    go (no h) (yes k) = afresh (inr k)
+    go (no h) (no k) = (old, record { fresh = λ a. absurd (off a); kept = λ f g. refl })
+      where
+        off : OnRun m i ⊎ OnRun m j → ⊥
+        off (inl a) = h a
+        off (inr a) = k a
+
+pub blockRedrawn-exists : (R : Records) (n : ℕ) (old : List ℕ) → (new : List ℕ) × BlockRedrawn R n old new
+blockRedrawn-exists R n old = (t .words, record { sized = t .sized; each = t .each })
+  where
+    t : PairTable (λ i j b. BlockPair R n i j (word old (pairIndex i j)) b)
+    t = pairs-exist _ (λ i j. blockPair-exists R n i j (word old (pairIndex i j)))
+
+pub runRedrawn-exists : (R : Records) (m : ℕ) (old : List ℕ) → (new : List ℕ) × RunRedrawn R m old new
+runRedrawn-exists R m old = (t .words, record { sized = t .sized; each = t .each })
+  where
+    t : PairTable (λ i j b. RunPair R m i j (word old (pairIndex i j)) b)
+    t = pairs-exist _ (λ i j. runPair-exists R m i j (word old (pairIndex i j)))
