@@ -1,5 +1,5 @@
--- Drawn yards with no blocks: every straight is clear, and the route of a run that stands alone is the straight between its ends.
-use mathlib.Core.Path.{_≡_, sym, ap, _∙_}
+-- Drawn yards: where run 0's ends are; with no blocks every straight is clear, and the route of a run that stands alone is the straight between its ends.
+use mathlib.Core.Path.{_≡_, refl, sym, ap, _∙_}
 use mathlib.Core.List.{List, [], _∷_}
 use mathlib.Core.Bool.{true, false, true≢false}
 use Prim.Native.Nat.{ℕ, _+_, _*_, _/_, _%_, _<_}
@@ -7,7 +7,7 @@ use native.Mathlib.Omega.{arith}
 use lib.Dec.{ltb}
 use lib.ListN.{getD, replicate}
 use borrow.Author.Tests.{ltb-true}
-use Rattle.geometry.specs.Words.{Point, word, blockWords}
+use Rattle.geometry.specs.Words.{Point, point, word, blockWords}
 use Rattle.lengths.specs.Length.{lengthOf}
 use Rattle.lists.proofs.Every.{both}
 use Rattle.paths.specs.Path.{Chain, last, more, total}
@@ -24,6 +24,23 @@ use Rattle.book.proofs.Sound.{none-there}
 module _ (b : Book) (T : Tables) (d : Drawn b T) where
   pub flag : (m : ℕ) → m < 24 → word (T .runs) (5 * m) ≡ word (runRecord (getD (b .runs) m [])) 0
   flag m l = sym (run-first (T .runs) m) ∙ ap (λ (ws : List ℕ). word ws 0) (d .runs m l)
+
+  -- run 0 goes from p to q
+  module _ (p q : Point) (run : getD (b .runs) 0 [] ≡ p ∷ q ∷ []) where
+    run-is : (k : ℕ) → k < 5 → word (T .runs) (5 * 0 + k) ≡ word (runRecord (p ∷ q ∷ [])) k
+    run-is k l = sym (run-word (T .runs) 0 k l) ∙ ap (λ (ws : List ℕ). word ws k) (d .runs 0 (omega arith) ∙ ap runRecord run)
+
+    pub run-there : word (T .runs) 0 ≡ 1
+    unfolding runRecord
+    run-there = run-is 0 (omega arith)
+
+    pub first-place : placeOf (records T) 192 ≡ p
+    unfolding placeOf runRecord placeWords
+    first-place = let e = run-is 1 (omega arith) in let n = run-is 2 (omega arith) in λ i. point (e i) (n i)
+
+    pub second-place : placeOf (records T) 193 ≡ q
+    unfolding placeOf runRecord placeWords
+    second-place = let e = run-is 3 (omega arith) in let n = run-is 4 (omega arith) in λ i. point (e i) (n i)
 
   -- the byte of run 1's two ends, where the run is not there
   pub second-absent : word (runRecord (getD (b .runs) 1 [])) 0 ≡ 0 → word (T .pairs) (pairIndex 194 195) ≡ 255
@@ -73,8 +90,7 @@ module _ (a q : Point) (T : Tables) (d : Drawn (withRun emptyBook 0 (a ∷ q ∷
   bare n = none-there 24 n
 
   pub there : word (T .runs) 0 ≡ 1
-  unfolding runRecord
-  there = flag _ T d 0 (omega arith)
+  there = run-there _ T d a q refl
 
   ends : bothPresent (records T) 192 193 ≡ true
   unfolding present isCorner isEnd
@@ -84,10 +100,8 @@ module _ (a q : Point) (T : Tables) (d : Drawn (withRun emptyBook 0 (a ∷ q ∷
   straight = let apart : _≡_ {A = ℕ} 192 193 → ⊥ = λ e. omega arith in last (apart, (ends, all-clear _ T d bare 192 193))
 
   costs : cost (records T) 192 193 ≡ lengthOf a q
-  unfolding cost placeOf runRecord placeWords
-  costs =
-      let w : (k : ℕ) → k < 5 → word (T .runs) (5 * 0 + k) ≡ word (runRecord (a ∷ q ∷ [])) k = λ k l. sym (run-word (T .runs) 0 k l) ∙ ap (λ (ws : List ℕ). word ws k) (d .runs 0 (omega arith)) in
-      rw (w 1 (omega arith), w 2 (omega arith), w 3 (omega arith), w 4 (omega arith))
+  unfolding cost
+  costs = rw (first-place _ T d a q refl, second-place _ T d a q refl)
 
   pub lone-length : word (routeWords (T .routes) 0) 1 ≡ lengthOf a q
   lone-length = go (d .right .routes 0 (omega arith))

@@ -19,10 +19,12 @@ replayed-whole l (tooShort s) = absurd (omega arith)
 replayed-whole l (whole _ p) = p
 
 -- and over a started yard answers and tables are those of their book
-pub replay-drawn : (f : List ℕ) (T₀ T T′ : Tables) (old ws : List ℕ) (count number at : ℕ)
-    → Started T₀ 0 T → (p : EditsCalled f T old ws count number at T′)
-    → (take count ws ≡ answers emptyBook (p .edits)) × Drawn (afterAll emptyBook (p .edits)) T′
-replay-drawn f T₀ T T′ old ws count number at st p = demand3 T₀ T T′ (p .edits) (take count ws) st (p .calls)
+pub replay-drawn : {f : List ℕ} {T₀ T T′ : Tables} {old ws : List ℕ} {count number at : ℕ}
+    → Started T₀ 0 T → (l : 4096 ≤ length old) (p : Replayed f T old ws count number at T′)
+    → (take count ws ≡ answers emptyBook (replayed-whole l p .edits)) × Drawn (afterAll emptyBook (replayed-whole l p .edits)) T′
+replay-drawn {T₀ = T₀} {T = T} {T′ = T′} {ws = ws} {count = count} st l p =
+    let e = replayed-whole l p in
+    demand3 T₀ T T′ (e .edits) (take count ws) st (e .calls)
 
 pub reads-unique : {f : List ℕ} {at n n′ stop stop′ : ℕ} {es es′ : List Edit} → Reads f at es n stop → Reads f at es′ n′ stop′
     → (es ≡ es′) × (n ≡ n′) × (stop ≡ stop′)

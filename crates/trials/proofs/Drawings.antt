@@ -14,13 +14,14 @@ use Rattle.geometry.specs.Words.{Point, point, word, blockWords, corners}
 use Rattle.geometry.specs.Obstruction.{cornerAt, Hidden}
 use Rattle.geometry.proofs.Corners.{corner-is}
 use Rattle.tables.specs.Tables.{Tables, records, isCorner, isEnd, present, placeOf}
-use Rattle.tables.specs.Written.{blockRecord, runRecord, placeWords}
+use Rattle.tables.specs.Written.{blockRecord}
 use Rattle.tables.proofs.Marks.{corner-place as placed-corner}
-use Rattle.tables.proofs.Splices.{block-word, block-first, run-word, corners-record}
+use Rattle.tables.proofs.Splices.{block-word, block-first, corners-record}
 use Rattle.visibility.specs.Visibility.{bothPresent, Clear, PairIs, clear, hidden}
 use Rattle.search.proofs.Network.{corner-below}
 use Rattle.book.specs.Book.{Book}
 use Rattle.book.specs.Drawing.{Drawn}
+use Rattle.book.proofs.Bare.{run-there, first-place, second-place}
 use Rattle.trials.proofs.Sight.{obstructed, seen-hidden, seen-clear}
 
 -- the corners of block n
@@ -121,21 +122,6 @@ module _ (b : Book) (T : Tables) (d : Drawn b T) where
 
   -- run 0 goes from p to q
   module _ (p q : Point) (run : getD (b .runs) 0 [] ≡ p ∷ q ∷ []) where
-    run-is : (k : ℕ) → k < 5 → word (T .runs) (5 * 0 + k) ≡ word (runRecord (p ∷ q ∷ [])) k
-    run-is k l = sym (run-word (T .runs) 0 k l) ∙ ap (λ (ws : List ℕ). word ws k) (d .runs 0 (omega arith) ∙ ap runRecord run)
-
-    pub run-there : word (T .runs) 0 ≡ 1
-    unfolding runRecord
-    run-there = run-is 0 (omega arith)
-
-    pub first-place : placeOf (records T) 192 ≡ p
-    unfolding placeOf runRecord placeWords
-    first-place = let e = run-is 1 (omega arith) in let n = run-is 2 (omega arith) in λ i. point (e i) (n i)
-
-    pub second-place : placeOf (records T) 193 ≡ q
-    unfolding placeOf runRecord placeWords
-    second-place = let e = run-is 3 (omega arith) in let n = run-is 4 (omega arith) in λ i. point (e i) (n i)
-
     -- the marks of the yard that a route of run 0 may touch
     pub data Mark : ℕ → Type 0 where
       start : Mark 192
@@ -144,16 +130,16 @@ module _ (b : Book) (T : Tables) (d : Drawn b T) where
 
     pub place-is : {u : ℕ} → Mark u → placeOf (records T) u ≡ markAt b p q u
     unfolding markAt
-    place-is start = first-place
-    place-is finish = second-place
+    place-is start = first-place b T d p q run
+    place-is finish = second-place b T d p q run
     place-is (corner {u} i) =
         let low = corner-below (T .blocks) u i in
         rw (ne-eqb u 192 (λ e. omega arith), ne-eqb u 193 (λ e. omega arith)) (corner-place u i)
 
     pub present-is : {u : ℕ} → Mark u → present (records T) u ≡ true
     unfolding present isCorner isEnd
-    present-is start = rw run-there
-    present-is finish = rw run-there
+    present-is start = rw (run-there b T d p q run)
+    present-is finish = rw (run-there b T d p q run)
     present-is (corner i) = rw i
 
     pub byte-is : (x : ℕ) → byteIs b p q x ≡ true → PairIs (records T) 192 193 x
@@ -164,10 +150,10 @@ module _ (b : Book) (T : Tables) (d : Drawn b T) where
         there = and-yes (present (records T) 192) _ (present-is start) (present-is finish)
 
         go : (t : Bool) → eqb x 254 ≡ t → cond t (seen b p q) (ltb x 24 && hiddenBy b p q x && allBelow x (λ n. not (hiddenBy b p q n))) ≡ true → PairIs (records T) 192 193 x
-        go true e s = clear there (rw (first-place, second-place) (seen-yes p q s)) (eqb-true x 254 e)
+        go true e s = clear there (rw (first-place b T d p q run, second-place b T d p q run) (seen-yes p q s)) (eqb-true x 254 e)
         go false e s =
             let c = both (ltb x 24 && hiddenBy b p q x) _ s in
             let a = both (ltb x 24) _ (c .0) in
             let l : x < 24 = ltb-true _ _ (a .0) in
-            hidden there l (rw (first-place, second-place) (hidden-yes p q x l (a .1)))
-            (λ n m o. hidden-no p q n (omega arith) (not-true _ (all-at (λ k. not (hiddenBy b p q k)) x n (c .1) m)) (rw (first-place, second-place) at o))
+            hidden there l (rw (first-place b T d p q run, second-place b T d p q run) (hidden-yes p q x l (a .1)))
+            (λ n m o. hidden-no p q n (omega arith) (not-true _ (all-at (λ k. not (hiddenBy b p q k)) x n (c .1) m)) (rw (first-place b T d p q run, second-place b T d p q run) at o))

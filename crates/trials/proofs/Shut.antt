@@ -13,7 +13,8 @@ use Rattle.search.specs.Network.{graph}
 use Rattle.routing.specs.Routes.{RouteIs, noWay}
 use Rattle.book.specs.Book.{Book}
 use Rattle.book.specs.Drawing.{Drawn}
-use Rattle.trials.proofs.Drawings.{seen, seen-of, run-there, first-place, second-place}
+use Rattle.book.proofs.Bare.{run-there, first-place, second-place}
+use Rattle.trials.proofs.Drawings.{seen, seen-of}
 
 module _ (b : Book) (T : Tables) (d : Drawn b T) (p q : Point) (run : getD (b .runs) 0 [] ≡ p ∷ q ∷ []) where
   abbrev G : Graph

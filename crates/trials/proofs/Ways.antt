@@ -22,8 +22,9 @@ use Rattle.routing.specs.Routes.{RouteIs, found}
 use Rattle.book.specs.Book.{Book}
 use Rattle.book.specs.Drawing.{Drawn}
 use Rattle.trials.proofs.Sight.{or-else}
+use Rattle.book.proofs.Bare.{run-there}
 use Rattle.trials.proofs.Measures.{atLeast, measures, at-least, measured, measures-of}
-use Rattle.trials.proofs.Drawings.{seen, cornerMark, eachCorner, markAt, seen-yes, seen-of, corner-of, at-corner, run-there, Mark, start, finish, corner, place-is, present-is}
+use Rattle.trials.proofs.Drawings.{seen, cornerMark, eachCorner, markAt, seen-yes, seen-of, corner-of, at-corner, Mark, start, finish, corner, place-is, present-is}
 
 module _ (b : Book) (p q : Point) (L : ℕ → Label) where
   -- the sum of the squares between two marks
