@@ -1,0 +1,3 @@
+pub mod Cones
+pub mod Diagonals
+pub mod Tests
