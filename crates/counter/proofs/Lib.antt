@@ -1,0 +1,4 @@
+pub mod Asking
+pub mod Unique
+pub mod Exists
+pub mod Panel
