@@ -6,6 +6,7 @@ ghost use Rattle.geometry.specs.Words.{point};
 ghost use Rattle.tables.specs.Tables.{tables, stored};
 ghost use Rattle.book.specs.Book.{addBlock, removeBlock, moveBlock, addRun, removeRun, moveRun};
 ghost use Rattle.book.specs.Edits.{Started, Called, Checked};
+ghost use Rattle.counter.specs.Quote.{RouteQuoted};
 ghost use Rattle.ducts.specs.Quote.{DuctQuoted};
 ghost use Rattle.yard_abi.specs.Reading.{ReadInto};
 ghost use Rattle.yard_abi.specs.Replaying.{ReplayedInto};
@@ -221,6 +222,14 @@ pub extern "C" fn yard_replay(
     }
     put_end(end, outcome.count as u64, outcome.at as u64);
     outcome.number
+}
+
+#[no_mangle]
+pub extern "C" fn yard_quote_route(blocks: &[u16], runs: &[u16], run: u32, route: &mut [u32]) -> u32
+    ensures { λ r. ⌜ RouteQuoted (stored (now (blocks .entry)) (now (runs .entry))) run
+        (now (route .entry)) r (now (route .exit)) ⌝ }
+{
+    counter::quote_route(blocks, runs, run, route)
 }
 
 #[no_mangle]
