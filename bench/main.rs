@@ -1,5 +1,5 @@
 //! The benchmark: a drag step of the proved planner beside a plain one of the same algorithm, one that draws
-//! everything from nothing, and Graphviz's, over several yards; and the duct quote.
+//! everything from nothing, and Graphviz's, over several yards; and the two quotes.
 
 #[path = "../bindings/abi.rs"]
 #[allow(dead_code)]
@@ -8,6 +8,7 @@ mod ducts;
 mod graphviz;
 #[allow(dead_code)]
 mod plain;
+mod quotes;
 mod stack;
 #[path = "../bindings/tables.rs"]
 #[allow(dead_code)]
@@ -198,10 +199,15 @@ fn our_time(g: &Grid) -> f64 {
     (0..ROUNDS).map(|_| drag(Planner::Ours, g, &mut g.tables(), &by)).fold(f64::MAX, f64::min)
 }
 
-/// The instructions that callgrind counted: lines of planner, yard, runs and number, and of duct, yard and number.
+/// What callgrind counted: lines of planner, yard, runs and instructions, of duct, yard and instructions, and of quote,
+/// yard, what was counted and its number for each route.
 struct Counts(String);
 
 impl Counts {
+    fn read(path: &str) -> Counts {
+        Counts(std::fs::read_to_string(path).unwrap_or_default())
+    }
+
     fn of(&self, planner: &str, g: &Grid) -> Option<f64> {
         let wanted = format!("{planner} {} {} ", g.word, g.runs);
         self.0.lines().find_map(|l| l.strip_prefix(&wanted)?.parse().ok())
@@ -210,6 +216,13 @@ impl Counts {
     fn duct(&self, word: &str) -> Option<f64> {
         let wanted = format!("duct {word} ");
         self.0.lines().find_map(|l| l.strip_prefix(&wanted)?.parse().ok())
+    }
+
+    /// What was counted of a yard's route quotes, each with its numbers.
+    fn quotes(&self, g: &Grid) -> Vec<(&str, Vec<f64>)> {
+        let prefix = format!("quote {} ", g.word);
+        let words = self.0.lines().filter_map(|l| l.strip_prefix(&prefix)?.split_once(' '));
+        words.map(|(name, numbers)| (name, numbers.split(' ').filter_map(|n| n.parse().ok()).collect())).collect()
     }
 }
 
@@ -271,22 +284,29 @@ fn print_growth(counts: &Counts) {
     }
 }
 
+fn grid(word: &str) -> Grid {
+    *YARDS.iter().find(|g| g.word == word).expect("a grid's word")
+}
+
 fn main() {
     let args: Vec<String> = std::env::args().collect();
     let words: Vec<&str> = args[1..].iter().map(|s| s.as_str()).collect();
     match words[..] {
         ["table", counts] => {
-            let counts = Counts(std::fs::read_to_string(counts).unwrap_or_default());
+            let counts = Counts::read(counts);
             print_table(&counts);
             println!();
             print_growth(&counts);
         }
-        ["ducts", counts] => ducts::print(&Counts(std::fs::read_to_string(counts).unwrap_or_default())),
+        ["ducts", counts] => ducts::print(&Counts::read(counts)),
+        ["quotes", counts] => quotes::print(&Counts::read(counts)),
         ["stack"] => stack::print(),
         // for callgrind: one duct quote
         ["duct", word] => ducts::once(word),
+        // for callgrind: the quote of every route of a yard
+        ["quote", word] => quotes::every_route(&grid(word).tables()),
         // for callgrind: a drag of some steps, nothing printed
-        ["drag", planner, grid, runs, steps] => {
+        ["drag", planner, word, runs, steps] => {
             let p = match planner {
                 "proved" => Planner::Ours,
                 "plain" => Planner::Plain,
@@ -294,13 +314,12 @@ fn main() {
                 "graphviz" => Planner::Graphviz,
                 _ => panic!("bench: no planner {planner}"),
             };
-            let g = YARDS.iter().find(|g| g.word == grid).expect("a grid's word");
-            let g = Grid { runs: runs.parse().expect("a count of runs"), ..*g };
+            let g = Grid { runs: runs.parse().expect("a count of runs"), ..grid(word) };
             drag(p, &g, &mut g.tables(), &displacements(steps.parse().expect("a count of steps")));
         }
         // for callgrind: one check of a yard
-        ["check", grid] => {
-            let t = YARDS.iter().find(|g| g.word == grid).expect("a grid's word").tables();
+        ["check", word] => {
+            let t = grid(word).tables();
             // The four tables are apart, live for the call, and as long as stated.
             let answer = unsafe {
                 abi::yard_check(

@@ -1,7 +1,7 @@
 //! The greatest depth of stack inside each call, against the figures of `include/yard.h` and what it has its user
 //! reserve: the call runs on a stack painted beforehand.
 
-use crate::{abi::*, displacements, ducts, Grid, Tables, CROWDED};
+use crate::{abi::*, displacements, ducts, quotes, Grid, Tables, CROWDED};
 use std::arch::asm;
 
 const SIZE: usize = 1 << 20;
@@ -24,6 +24,7 @@ enum Call {
     MoveRun([u16; 4]),
     Check,
     Replay(Vec<u8>, Vec<u32>, [u64; 2]),
+    QuoteRoute(u32, [u32; quotes::ROUTE]),
     QuoteDuct([u32; ducts::QUOTE], Vec<u16>),
 }
 
@@ -52,6 +53,7 @@ extern "C" fn perform(job: *mut Job) {
                 let (a, al, e, el) = (a.as_mut_ptr(), a.len(), e.as_mut_ptr(), e.len());
                 yard_replay(b, bl, r, rl, p, pl, w, wl, f.as_ptr(), f.len(), a, al, e, el)
             }
+            Call::QuoteRoute(run, w) => yard_quote_route(b, bl, r, rl, *run, w.as_mut_ptr(), w.len()),
             Call::QuoteDuct(q, c) => yard_quote_duct(b, bl, r, rl, 0, q.as_mut_ptr(), q.len(), c.as_mut_ptr(), c.len()),
         }
     };
@@ -116,8 +118,9 @@ fn every_kind() -> Vec<u8> {
     [b"YRD\x01\x00".to_vec(), edits.concat()].concat()
 }
 
-/// What each call that edits or checks is tried with, over the crowded yard; the replay, which no panel makes, last.
-fn calls() -> [(&'static str, Vec<(Tables, Call)>); 9] {
+/// What each call that edits or checks is tried with, over the crowded yard; the route's quote and the replay, which no
+/// panel makes, last.
+fn calls() -> [(&'static str, Vec<(Tables, Call)>); 10] {
     let mut full = CROWDED.tables();
     // a straight whose root is as deep as any
     assert_eq!(full.yard().move_run(0, [0, 2000, 32767, 10]), 0);
@@ -126,6 +129,7 @@ fn calls() -> [(&'static str, Vec<(Tables, Call)>); 9] {
     perform(&mut Job { t: &mut without, call: Call::RemoveRun });
     let move_blocks = displacements(3).into_iter().map(|d| (full.clone(), Call::MoveBlock(d.0, d.1))).collect();
     let move_runs = [[0, 0, 32767, 32767], [7, 9, 7, 9]].map(|ends| (full.clone(), Call::MoveRun(ends))).to_vec();
+    let quotes = (0..24).map(|run| (full.clone(), Call::QuoteRoute(run, [0; quotes::ROUTE]))).collect();
     let replay = Call::Replay(every_kind(), vec![0; 4096], [0; 2]);
     [
         ("yard_start", vec![(full.clone(), Call::Start)]),
@@ -136,12 +140,13 @@ fn calls() -> [(&'static str, Vec<(Tables, Call)>); 9] {
         ("yard_remove_run", vec![(full.clone(), Call::RemoveRun)]),
         ("yard_move_run", move_runs),
         ("yard_check", vec![(full.clone(), Call::Check)]),
+        ("yard_quote_route", quotes),
         ("yard_replay", vec![(full, replay)]),
     ]
 }
 
 /// What the header says: the KiB that its user is to reserve, for a call and for the duct quote, and the bytes that were
-/// measured, of a call, of a replay and of the duct quote.
+/// measured, of a call, of a route's quote, of a replay and of the duct quote.
 fn said(header: &str) -> (Vec<usize>, Vec<usize>) {
     let words: Vec<&str> = header.split_whitespace().filter(|&w| w != "*").collect();
     let reserve = |w: &[&str]| (w[0] == "reserve" && w[2].starts_with("KiB")).then(|| w[1].parse().ok())?;
@@ -153,27 +158,28 @@ fn said(header: &str) -> (Vec<usize>, Vec<usize>) {
 pub fn print() {
     let header = std::fs::read_to_string("include/yard.h").expect("include/yard.h");
     let (reserves, figures) = said(&header);
-    let ([reserve, quote_reserve], [figure, replay_figure, quote_figure]) = (&reserves[..], &figures[..]) else {
-        panic!("include/yard.h should reserve two stacks and give three figures: {reserves:?}, {figures:?}")
+    let ([reserve, duct_reserve], [figure, route_figure, replay_figure, duct_figure]) = (&reserves[..], &figures[..]) else {
+        panic!("include/yard.h should reserve two stacks and give four figures: {reserves:?}, {figures:?}")
     };
     let frame = greatest(&[(CROWDED.tables(), Call::Nothing)]);
     println!("greatest depth of stack of a call, bytes, over the crowded yard");
     let depths = calls().map(|(name, calls)| (name, greatest(&calls) - frame));
     depths.iter().for_each(|(name, bytes)| println!("{name:<18} {bytes:>6}"));
     let most = depths[..8].iter().map(|d| d.1).max().unwrap_or(0);
-    let replay = depths[8].1;
-    let duct = |y: &ducts::Yard| (y.tables(), Call::QuoteDuct([0; ducts::QUOTE], vec![0; ducts::CROSSINGS]));
-    let quote = greatest(&ducts::YARDS.iter().map(duct).collect::<Vec<_>>()) - frame;
-    println!("{:<18} {quote:>6} over the yards of the duct quote", "yard_quote_duct");
+    let (route, replay) = (depths[8].1, depths[9].1);
+    let quote = |y: &ducts::Yard| (y.tables(), Call::QuoteDuct([0; ducts::QUOTE], vec![0; ducts::CROSSINGS]));
+    let duct = greatest(&ducts::YARDS.iter().map(quote).collect::<Vec<_>>()) - frame;
+    println!("{:<18} {duct:>6} over the yards of the duct quote", "yard_quote_duct");
     println!("tables {TABLES} + stack {most} of a panel's calls = {} bytes, to stay below {PANEL}", TABLES + most);
     assert!(TABLES + most < PANEL, "a panel's call takes too much stack");
     for (what, bytes, figure, reserve) in [
         ("a call", most, figure, reserve),
+        ("a route's quote", route, route_figure, reserve),
         ("a replay", replay, replay_figure, reserve),
-        ("a duct's quote", quote, quote_figure, quote_reserve),
+        ("a duct's quote", duct, duct_figure, duct_reserve),
     ] {
         assert!(bytes <= *figure, "{what} takes {bytes} bytes of stack, include/yard.h says {figure}");
         assert!(bytes <= reserve << 10, "{what} takes {bytes} bytes of stack, include/yard.h reserves {reserve} KiB");
     }
-    println!("tests/stack: within the {figure}, {replay_figure} and {quote_figure} bytes of include/yard.h");
+    println!("tests/stack: within the {figure}, {route_figure}, {replay_figure} and {duct_figure} bytes of include/yard.h");
 }

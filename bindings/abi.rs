@@ -33,6 +33,9 @@ extern "C" {
     pub fn yard_check(
         b: *const u16, bl: usize, r: *const u16, rl: usize, p: *const u8, pl: usize, w: *const u32, wl: usize,
     ) -> u32;
+    pub fn yard_quote_route(
+        b: *const u16, bl: usize, r: *const u16, rl: usize, run: u32, route: *mut u32, route_len: usize,
+    ) -> u32;
     pub fn yard_quote_duct(
         b: *const u16, bl: usize, r: *const u16, rl: usize, run: u32,
         quote: *mut u32, quote_len: usize, crossings: *mut u16, crossings_len: usize,

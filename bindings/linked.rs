@@ -30,6 +30,13 @@ impl<T: Copy + PartialEq> Fenced<T> {
         assert!(whole, "a store outside {name}");
         table.copy_from_slice(&self.all[MARGIN..end]);
     }
+
+    /// A table that was lent to be read.
+    fn kept(&self, table: &[T], name: &str) {
+        let mut after = table.to_vec();
+        self.take(&mut after, name);
+        assert!(after == table, "the call changed {name}");
+    }
 }
 
 pub struct Linked;
@@ -72,16 +79,31 @@ impl Planner for Linked {
     }
 }
 
+/// A quote, which is lent blocks and runs to read.
+fn over_records(blocks: &[u16], runs: &[u16], quote: impl FnOnce(*const u16, usize, *const u16, usize) -> u32) -> u32 {
+    let (mut b, mut r) = (Fenced::new(blocks, 0x5A5A), Fenced::new(runs, 0x5A5A));
+    let answer = quote(b.ptr(), b.len, r.ptr(), r.len);
+    b.kept(blocks, "blocks");
+    r.kept(runs, "runs");
+    answer
+}
+
+/// The route of a run from the records alone: the number, and the route record as the call leaves it.
+pub fn quote_route(blocks: &[u16], runs: &[u16], run: u32, route: &mut [u32]) -> u32 {
+    let mut w = Fenced::new(route, 0x5A5A_5A5A);
+    // The three lists are apart, live for the call, and as long as stated.
+    let answer = over_records(blocks, runs, |b, bl, r, rl| unsafe { yard_quote_route(b, bl, r, rl, run, w.ptr(), w.len) });
+    w.take(route, "the route");
+    answer
+}
+
 /// The duct of a run: the number, and the two lists as the call leaves them.
 pub fn quote_duct(blocks: &[u16], runs: &[u16], run: u32, quote: &mut [u32], crossings: &mut [u16]) -> u32 {
-    let (mut b, mut r) = (Fenced::new(blocks, 0x5A5A), Fenced::new(runs, 0x5A5A));
     let (mut q, mut c) = (Fenced::new(quote, 0x5A5A_5A5A), Fenced::new(crossings, 0x5A5A));
     // The four lists are apart, live for the call, and as long as stated.
-    let answer = unsafe { yard_quote_duct(b.ptr(), b.len, r.ptr(), r.len, run, q.ptr(), q.len, c.ptr(), c.len) };
-    let (mut blocks_after, mut runs_after) = (blocks.to_vec(), runs.to_vec());
-    b.take(&mut blocks_after, "blocks");
-    r.take(&mut runs_after, "runs");
-    assert!(blocks_after == blocks && runs_after == runs, "the quote changed a table");
+    let answer = over_records(blocks, runs, |b, bl, r, rl| unsafe {
+        yard_quote_duct(b, bl, r, rl, run, q.ptr(), q.len, c.ptr(), c.len)
+    });
     q.take(quote, "the quote");
     c.take(crossings, "the crossings");
     answer
@@ -92,9 +114,7 @@ pub fn replay(t: &mut Tables, file: &[u8], answers: &mut [u32], end: &mut [u64])
     let mut f = Fenced::new(file, 0x5A);
     let (mut a, mut e) = (Fenced::new(answers, 0x5A5A_5A5A), Fenced::new(end, 0x5A5A_5A5A_5A5A_5A5A));
     let number = fenced_call!(t, yard_replay, f.ptr(), f.len, a.ptr(), a.len, e.ptr(), e.len);
-    let mut file_after = file.to_vec();
-    f.take(&mut file_after, "the file");
-    assert!(file_after == file, "the replay changed the file");
+    f.kept(file, "the file");
     a.take(answers, "the answers");
     e.take(end, "the end");
     number

@@ -11,8 +11,8 @@
  *
  * A call keeps nothing: there is no hidden state, no heap and no I/O. Calls on different tables may run at the same
  * time; calls on the same tables must not, except those that take them const beside each other. A call uses about 4 KiB
- * of stack (3,944 bytes at most where it was measured, on x86-64) and yard_replay about 6 KiB (6,088 bytes): reserve
- * 8 KiB. Only yard_quote_duct takes more, about 19 KB.
+ * of stack (3,944 bytes at most where it was measured, on x86-64), yard_quote_route about 4 KiB (4,208 bytes) and
+ * yard_replay about 6 KiB (6,088 bytes): reserve 8 KiB. Only yard_quote_duct takes more, about 19 KB.
  *
  * East is the first coordinate, north the second, from 0 to 32,767; lengths are in centimetres.
  *
@@ -124,6 +124,15 @@ uint32_t yard_move_run(uint16_t *blocks, size_t blocks_len, uint16_t *runs, size
 /* Are pairs and routes what blocks and runs require? Changes nothing. Answers 0, 1, 2 or 11. */
 uint32_t yard_check(const uint16_t *blocks, size_t blocks_len, const uint16_t *runs, size_t runs_len,
                     const uint8_t *pairs, size_t pairs_len, const uint32_t *routes, size_t routes_len);
+
+/*
+ * The route of a run from blocks and runs alone, where there is no memory for pairs: whether a straight is hidden is
+ * tested only where the best route so far goes. route has exactly YARD_ROUTE_WORDS words, and is filled with the
+ * record that blocks and runs require: what right tables hold for the run in routes. Blocks and runs are only read.
+ * Answers 0 to 3 and 5.
+ */
+uint32_t yard_quote_route(const uint16_t *blocks, size_t blocks_len, const uint16_t *runs, size_t runs_len,
+                          uint32_t run, uint32_t *route, size_t route_len);
 
 /*
  * The duct of a run: a way that is laid only east-west and north-south, along the lines through every corner of a
