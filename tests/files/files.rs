@@ -1,6 +1,6 @@
 //! The files that are tried: written from edits, and damaged.
 
-use crate::random::{self, Random, FULL, STYLES};
+use crate::random::{self, Random};
 use crate::reader::{HEAD, LONGEST};
 use crate::tables::Edit;
 
@@ -38,7 +38,7 @@ pub fn file(edits: &[Edit]) -> Vec<u8> {
 
 /// A random yard's file of up to so many edits, some of them refused.
 pub fn random_file(r: &mut Random, most: usize) -> Vec<u8> {
-    let s = if r.percent(10) { r.pick(&FULL) } else { r.pick(&STYLES) };
+    let s = random::any_style(r);
     let count = r.below(most + 1);
     file(&random::list(r, &s, count))
 }

@@ -158,12 +158,16 @@ const STYLES: [Style; 4] = [
 ];
 
 /// A random list, stretched in a random way.
-pub fn one(p: &impl Planner, r: &mut Random, calls: &mut usize) -> Result<(), String> {
+pub fn edits(r: &mut Random) -> Vec<Edit> {
     let s = r.pick(&STYLES);
     let stretch = r.pick(&Stretch::all(s.high));
     let exact = r.percent(50);
     let edits: Vec<Edit> = list(r, &s).iter().map(|e| stretch.edit(e)).collect();
-    let edits: Vec<Edit> = edits.into_iter().map(|e| if exact { e } else { off(r, e) }).collect();
+    edits.into_iter().map(|e| if exact { e } else { off(r, e) }).collect()
+}
+
+pub fn one(p: &impl Planner, r: &mut Random, calls: &mut usize) -> Result<(), String> {
+    let edits = edits(r);
     random_list(p, &edits, true, calls)
 }
 

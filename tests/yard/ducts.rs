@@ -2,91 +2,69 @@
 
 use crate::duct_router::Lines;
 use crate::duct_yards::{seeded, shown, small_name, small_yard, turned, Kind, MAZE, SMALL, SMALL_KINDS, SMALL_YARDS};
+use crate::lent::{any_words, compared, refusals, yard_of, Lent, Lists};
 use crate::linked::quote_duct;
 use crate::random::Random;
-use crate::reference::{convex, stored_book, Book, Place};
-use crate::tables::{Tables, BLOCKS, RUNS};
-use crate::{same_answer, scramble, Report};
+use crate::reference::{convex, Book, Place};
+use crate::tables::Tables;
+use crate::Report;
 use std::collections::HashSet;
 
 const QUOTE: usize = 3;
 const CROSSINGS: usize = 8712;
 
-/// What a call is lent, of any length and with any contents.
+/// The quote and its crossings.
 #[derive(Clone)]
-struct Lent {
-    tables: Tables,
+struct Duct {
     quote: Vec<u32>,
     crossings: Vec<u16>,
 }
 
-impl Lent {
-    /// A book's records, and lists with words that an accepted call must overwrite.
-    fn new(r: &mut Random, book: &Book) -> Lent {
-        let mut tables = Tables { blocks: vec![0; BLOCKS], runs: vec![0; RUNS], pairs: vec![], routes: vec![] };
-        book.write_records(&mut tables);
-        let crossings = match r.below(8) {
-            0 => vec![0; CROSSINGS],
-            1 => vec![u16::MAX; CROSSINGS],
-            _ => (0..CROSSINGS).map(|_| r.next() as u16).collect(),
-        };
-        Lent { tables, quote: (0..QUOTE).map(|_| r.next() as u32).collect(), crossings }
+impl Lists for Duct {
+    const NAME: &'static str = "duct";
+    const COUNT: usize = 2;
+    const NUMBERS: &'static [usize] = &[0, 2, 3, 5, 12];
+
+    fn filled(r: &mut Random) -> Duct {
+        let crossings = any_words(r, CROSSINGS).into_iter().map(|w| w as u16).collect();
+        Duct { quote: any_words(r, QUOTE), crossings }
     }
 
     fn lengths_right(&self) -> bool {
-        (self.tables.blocks.len(), self.tables.runs.len(), self.quote.len(), self.crossings.len()) == (BLOCKS, RUNS, QUOTE, CROSSINGS)
+        (self.quote.len(), self.crossings.len()) == (QUOTE, CROSSINGS)
     }
 
-    /// The number that is due and what the lists must hold after the call.
-    fn due(&self, run: u32) -> (u32, Vec<u32>, Vec<u16>) {
-        let refused = |number| (number, self.quote.clone(), self.crossings.clone());
-        if !self.lengths_right() {
-            return refused(1);
+    fn resize(&mut self, list: usize, other: impl Fn(usize) -> usize) {
+        match list {
+            0 => self.quote.resize(other(QUOTE), 77),
+            1 => self.crossings.resize(other(CROSSINGS), 77),
+            _ => {}
         }
-        let Some(book) = stored_book(&self.tables) else { return refused(2) };
-        if run >= 24 {
-            return refused(3);
-        }
-        let ends = &book.runs[run as usize];
-        if ends.is_empty() {
-            return refused(5);
-        }
+    }
+
+    fn due(book: &Book, run: usize) -> Result<Duct, u32> {
         if book.blocks.iter().filter(|b| !b.is_empty()).count() > 8 {
-            return refused(12);
+            return Err(12);
         }
         let mut crossings = vec![0; CROSSINGS];
-        let Some(path) = Lines::new(&book, ends).least() else { return (0, vec![2, 0, 0], crossings) };
+        let Some(path) = Lines::new(book, &book.runs[run]).least() else { return Ok(Duct { quote: vec![2, 0, 0], crossings }) };
         for (words, c) in crossings.chunks_mut(2).zip(&path.crossings) {
             words.copy_from_slice(&[c.0 as u16, c.1 as u16]);
         }
-        (0, vec![1, path.cost as u32, path.crossings.len() as u32], crossings)
+        Ok(Duct { quote: vec![1, path.cost as u32, path.crossings.len() as u32], crossings })
     }
 
-    /// Make the call and compare. The number is given back.
-    fn call(&self, run: u32) -> Result<u32, String> {
-        let (mut quote, mut crossings) = (self.quote.clone(), self.crossings.clone());
-        let answer = quote_duct(&self.tables.blocks, &self.tables.runs, run, &mut quote, &mut crossings);
-        let (right, quote_due, crossings_due) = self.due(run);
-        same_answer("quote", answer, right)?;
-        if quote != quote_due {
-            return Err(format!("answer {right}, quote {quote:?}, should be {quote_due:?}"));
-        }
-        match (0..crossings.len()).find(|&k| crossings[k] != crossings_due[k]) {
-            None => Ok(right),
-            Some(at) => Err(format!("answer {right}, word {at} of the crossings {}, should be {}", crossings[at], crossings_due[at])),
-        }
+    fn call(&mut self, t: &Tables, run: u32) -> u32 {
+        quote_duct(&t.blocks, &t.runs, run, &mut self.quote, &mut self.crossings)
     }
-}
 
-/// The quote of a run, over a yard with fewer blocks if that goes wrong too.
-fn compared(r: &mut Random, book: &Book, run: usize) -> Result<(), String> {
-    let Err(why) = Lent::new(r, book).call(run as u32) else { return Ok(()) };
-    for n in (0..24).filter(|&n| !book.blocks[n].is_empty()) {
-        let mut fewer = book.clone();
-        fewer.blocks[n].clear();
-        compared(r, &fewer, run)?;
+    fn difference(&self, due: &Duct) -> Option<String> {
+        if self.quote != due.quote {
+            return Some(format!("quote {:?}, should be {:?}", self.quote, due.quote));
+        }
+        let at = (0..self.crossings.len()).find(|&k| self.crossings[k] != due.crossings[k])?;
+        Some(format!("word {at} of the crossings {}, should be {}", self.crossings[at], due.crossings[at]))
     }
-    Err(format!("{why}: {}", shown(book, run)))
 }
 
 fn small_yards(report: &mut Report) {
@@ -94,7 +72,7 @@ fn small_yards(report: &mut Report) {
         report.case(&format!("duct, {}", small_name(kind)), |calls| {
             for k in (kind..SMALL_YARDS).step_by(SMALL_KINDS.len() + 1) {
                 let (book, run) = small_yard(k);
-                compared(&mut seeded(k), &book, run).map_err(|why| format!("yard {k}: {why}"))?;
+                compared::<Duct>(&mut seeded(k), &book, run).map_err(|why| format!("yard {k}: {why}"))?;
                 *calls += 1;
             }
             Ok(())
@@ -102,7 +80,7 @@ fn small_yards(report: &mut Report) {
     }
 }
 
-const KINDS: [Kind; 8] = [
+pub const KINDS: [Kind; 8] = [
     Kind { name: "overlapping", span: 12, size: 8, least: 4, ..SMALL },
     Kind { name: "steps of 25, larger", span: 12, size: 6, step: 25, least: 4, ..SMALL },
     Kind { name: "steps of 5", span: 20, size: 9, step: 5, ..SMALL },
@@ -119,7 +97,7 @@ fn larger_yards(report: &mut Report) {
             for k in 0..300 {
                 let mut r = seeded(100_000 + 1000 * at + k);
                 let (book, run) = kind.yard(&mut r);
-                compared(&mut r, &book, run).map_err(|why| format!("yard {k}: {why}"))?;
+                compared::<Duct>(&mut r, &book, run).map_err(|why| format!("yard {k}: {why}"))?;
                 *calls += 1;
             }
             Ok(())
@@ -164,7 +142,7 @@ fn octagons(report: &mut Report) {
             book.runs[5] = vec![end(&mut r, 0), end(&mut r, side - side / 8)];
             full += (all_different(&book, |p| p.0) && all_different(&book, |p| p.1)) as usize;
             *calls += 1;
-            compared(&mut r, &turned(&book, k, side), 5)
+            compared::<Duct>(&mut r, &turned(&book, k, side), 5)
         });
     }
     report.case("66 lines each way often enough", |_| if full >= 8 { Ok(()) } else { Err(format!("only {full} of 40")) });
@@ -187,7 +165,7 @@ fn wall(r: &mut Random, a: Place, b: Place, thick: i64) -> Vec<Place> {
 }
 
 /// Walls along lines of places, and a run.
-fn walled(r: &mut Random, lines: &[&[Place]], thick: i64, ends: [Place; 2]) -> Book {
+pub fn walled(r: &mut Random, lines: &[&[Place]], thick: i64, ends: [Place; 2]) -> Book {
     let mut book = Book::new();
     let walls: Vec<Vec<Place>> = lines.iter().flat_map(|line| line.windows(2)).map(|w| wall(r, w[0], w[1], thick)).collect();
     book.blocks[..walls.len()].clone_from_slice(&walls);
@@ -196,14 +174,14 @@ fn walled(r: &mut Random, lines: &[&[Place]], thick: i64, ends: [Place; 2]) -> B
 }
 
 /// Out of the middle of a spiral of eight walls, so far from each other.
-fn spiral(r: &mut Random, gap: i64) -> Book {
+pub fn spiral(r: &mut Random, gap: i64) -> Book {
     let c = 3 * gap;
     let line: Vec<Place> = [(0, 0), (1, 0), (1, 1), (-1, 1), (-1, -1), (2, -1), (2, 2), (-2, 2), (-2, -2)].map(|p| (c + gap * p.0, c + gap * p.1)).to_vec();
     walled(r, &[&line], gap / 8, [(c - gap / 2, c + gap / 2), (c + 5 * gap / 2, c + gap / 3)])
 }
 
 /// Up a shaft that five walls from either side bar in turn.
-fn shaft(r: &mut Random, gap: i64) -> Book {
+pub fn shaft(r: &mut Random, gap: i64) -> Book {
     let (w, e) = (gap, 5 * gap);
     let bar = |k: i64| if k % 2 == 0 { [(w, k * gap), (e - gap, k * gap)] } else { [(w + gap, k * gap), (e, k * gap)] };
     let bars = [2, 3, 4, 5, 6].map(bar);
@@ -226,12 +204,12 @@ fn mazes(report: &mut Report) {
                     if least.changes < bends {
                         return Err(format!("only {} bends: {}", least.changes, shown(&book, 0)));
                     }
-                    compared(&mut r, &book, 0)?;
+                    compared::<Duct>(&mut r, &book, 0)?;
                     // the other way round, and without one of the walls
                     book.runs[0].reverse();
-                    compared(&mut r, &book, 0)?;
+                    compared::<Duct>(&mut r, &book, 0)?;
                     book.blocks[r.below(8)].clear();
-                    compared(&mut r, &book, 0)?;
+                    compared::<Duct>(&mut r, &book, 0)?;
                     *calls += 3;
                 }
                 Ok(())
@@ -272,8 +250,8 @@ fn known(report: &mut Report) {
             let mut book = Book::new();
             book.blocks[..blocks.len()].clone_from_slice(&blocks);
             book.runs[7] = ends.to_vec();
-            let lent = Lent::new(&mut seeded(1), &book);
-            let (_, quote, crossings) = lent.due(7);
+            let lent = Lent::<Duct>::new(&mut seeded(1), &book);
+            let (_, Duct { quote, crossings }) = lent.due(7);
             let (state, cost, list) = way.map_or((2, 0, vec![]), |(cost, list)| (1, cost, list));
             let count = list.len() / 2;
             if quote != [state, cost, count as u32] || crossings[..2 * count] != list {
@@ -285,118 +263,17 @@ fn known(report: &mut Report) {
     }
 }
 
-const NUMBERS: [u32; 9] = [24, 25, 31, 48, 255, 65535, 65536, 1 << 31, u32::MAX];
-
-/// A yard of so many blocks and, of the runs, just the one with this number.
-fn yard_of(r: &mut Random, blocks: usize, run: usize) -> Book {
-    let mut book = Book::new();
-    while book.blocks.iter().filter(|b| !b.is_empty()).count() < blocks {
-        book.blocks[r.below(24)] = SMALL.block(r);
-    }
-    book.runs[run] = vec![(r.between(0, 5), r.between(0, 5)), (r.between(0, 5), r.between(0, 5))];
-    book
-}
-
-/// A call that must be answered so.
-fn answered(lent: &Lent, run: u32, number: u32, calls: &mut usize) -> Result<(), String> {
-    *calls += 1;
-    lent.call(run).and_then(|answer| same_answer("the case", answer, number))
-}
-
-fn refusals(report: &mut Report) {
-    report.case("numbers that are not below 24", |calls| {
-        for (k, blocks) in [0, 1, 8, 9, 24].into_iter().enumerate() {
-            let mut r = seeded(400_000 + k);
-            let book = yard_of(&mut r, blocks, 0);
-            let lent = Lent::new(&mut r, &book);
-            NUMBERS.iter().try_for_each(|&run| answered(&lent, run, 3, calls))?;
-        }
-        Ok(())
-    });
-    report.case("absent runs", |calls| {
-        for k in 0..24usize {
-            let mut r = seeded(410_000 + k);
-            // 5 comes before 12
-            let book = yard_of(&mut r, k, k);
-            let lent = Lent::new(&mut r, &book);
-            (0..24).filter(|&run| run != k as u32).try_for_each(|run| answered(&lent, run, 5, calls))?;
-        }
-        Ok(())
-    });
+fn too_many_blocks(report: &mut Report) {
     report.case("more than 8 blocks", |calls| {
         for blocks in 0..=24 {
             for k in 0..8 {
                 let mut r = seeded(420_000 + 100 * blocks + k);
                 let run = r.below(24);
                 let book = yard_of(&mut r, blocks, run);
-                answered(&Lent::new(&mut r, &book), run as u32, if blocks > 8 { 12 } else { 0 }, calls)?;
+                Lent::<Duct>::new(&mut r, &book).answered(run as u32, if blocks > 8 { 12 } else { 0 }, calls)?;
             }
         }
         Ok(())
-    });
-    wrong_lengths(report);
-    wrong_records(report);
-}
-
-/// Every length wrong alone and together with others, over yards that other questions fail for too.
-fn wrong_lengths(report: &mut Report) {
-    for list in 0..4 {
-        report.case(&format!("duct, list {list} of another length"), |calls| {
-            for k in 0..60 {
-                let mut r = seeded(430_000 + 100 * list + k);
-                let blocks = r.below(12);
-                let book = yard_of(&mut r, blocks, 3);
-                let mut lent = Lent::new(&mut r, &book);
-                if r.percent(40) {
-                    scramble(&mut r, &mut lent.tables);
-                }
-                let also = r.below(8);
-                for list in [list, also] {
-                    let other = |right: usize| [0, right - 1, right + 1, 1, right / 2, 2 * right][k % 6];
-                    match list {
-                        0 => lent.tables.blocks.resize(other(BLOCKS), 0),
-                        1 => lent.tables.runs.resize(other(RUNS), 0),
-                        2 => lent.quote.resize(other(QUOTE), 77),
-                        3 => lent.crossings.resize(other(CROSSINGS), 77),
-                        _ => {}
-                    }
-                }
-                answered(&lent, r.pick(&[3, 3, 4, 24, u32::MAX]), 1, calls)?;
-            }
-            Ok(())
-        });
-    }
-    report.case("duct, lengths of blocks and runs exchanged", |calls| {
-        let mut r = seeded(440_000);
-        let book = yard_of(&mut r, 2, 3);
-        let mut lent = Lent::new(&mut r, &book);
-        std::mem::swap(&mut lent.tables.blocks, &mut lent.tables.runs);
-        answered(&lent, 3, 1, calls)
-    });
-}
-
-/// Records with some words changed, for any run.
-fn wrong_records(report: &mut Report) {
-    let mut numbers = [0; 13];
-    for seed in 0..30 {
-        report.case(&format!("duct over changed records, seed {seed}"), |calls| {
-            for k in 0..100 {
-                let mut r = seeded(500_000 + 1000 * seed + k);
-                let (blocks, run) = (r.below(14), r.below(24));
-                let book = yard_of(&mut r, blocks, run);
-                let mut lent = Lent::new(&mut r, &book);
-                scramble(&mut r, &mut lent.tables);
-                let asked = if r.percent(70) { run as u32 } else { r.pick(&[0, 23, 24, u32::MAX]) };
-                let words = format!("run {asked} over blocks {:?} runs {:?}", lent.tables.blocks, lent.tables.runs);
-                numbers[lent.call(asked).map_err(|why| format!("{why}: {words}"))? as usize] += 1;
-                *calls += 1;
-            }
-            Ok(())
-        });
-    }
-    report.case("every number often enough", |_| {
-        let few = [0, 2, 3, 5, 12].iter().any(|&n| numbers[n] < 20) || numbers[2] < 400;
-        if few { Err(format!("{numbers:?}")) } else { Ok(()) }
     });
 }
 
@@ -405,7 +282,7 @@ pub fn one(r: &mut Random, calls: &mut usize) -> Result<(), String> {
     let kind = if r.percent(50) { r.pick(&KINDS) } else { r.pick(&SMALL_KINDS) };
     let (book, run) = kind.yard(r);
     *calls += 1;
-    compared(r, &book, run)
+    compared::<Duct>(r, &book, run)
 }
 
 pub fn ducts(report: &mut Report) {
@@ -414,5 +291,6 @@ pub fn ducts(report: &mut Report) {
     larger_yards(report);
     octagons(report);
     mazes(report);
-    refusals(report);
+    refusals::<Duct>(report);
+    too_many_blocks(report);
 }

@@ -8,12 +8,13 @@ use std::ptr::{null, null_mut};
 
 const FILE: &[u8] = b"YRD\x01\x00\x02\x05\x05\x05";
 
+fn lent<T>(list: &mut [T], missing: bool) -> (*mut T, usize) {
+    if missing { (null_mut(), 0) } else { (list.as_mut_ptr(), list.len()) }
+}
+
 /// The four tables as a call takes them, those whose bit is set as NULL.
 macro_rules! with_tables {
     ($t:expr, $missing:expr, $f:ident $(, $arg:expr)*) => {{
-        fn lent<T>(table: &mut [T], missing: bool) -> (*mut T, usize) {
-            if missing { (null_mut(), 0) } else { (table.as_mut_ptr(), table.len()) }
-        }
         let (b, r) = (lent(&mut $t.blocks, $missing & 1 != 0), lent(&mut $t.runs, $missing & 2 != 0));
         let (p, w) = (lent(&mut $t.pairs, $missing & 4 != 0), lent(&mut $t.routes, $missing & 8 != 0));
         // Each table is apart, live for the call and as long as stated, or empty.
@@ -113,21 +114,35 @@ fn replaying(report: &mut Report) {
     });
 }
 
+/// A quote with lists that are NULL: answer 1 for every run.
+fn not_quoted(quote: impl Fn((*mut u16, usize), (*mut u16, usize), u32) -> u32, missing: u32, calls: &mut usize) -> Result<(), String> {
+    let before = yard();
+    let mut t = before.clone();
+    for run in [4, 0, 24] {
+        *calls += 1;
+        let (b, r) = (lent(&mut t.blocks, missing & 1 != 0), lent(&mut t.runs, missing & 2 != 0));
+        same_answer(&format!("run {run}"), quote(b, r, run), 1)?;
+    }
+    same_tables("nothing is stored", &t, &before)
+}
+
 fn quoting(report: &mut Report) {
     for missing in 1..16 {
-        report.case(&format!("lists {missing:04b} of a quote NULL"), |calls| {
-            let t = yard();
+        report.case(&format!("lists {missing:04b} of a duct's quote NULL"), |calls| {
             let (mut quote, mut crossings) = ([7u32; 3], vec![7u16; 8712]);
-            let lent = |list: &[u16], bit: u32| if missing & bit != 0 { (null(), 0) } else { (list.as_ptr(), list.len()) };
-            let (b, r) = (lent(&t.blocks, 1), lent(&t.runs, 2));
-            let q = if missing & 4 != 0 { (null_mut(), 0) } else { (quote.as_mut_ptr(), 3) };
-            let c = if missing & 8 != 0 { (null_mut(), 0) } else { (crossings.as_mut_ptr(), crossings.len()) };
-            for run in [4, 0, 24] {
-                *calls += 1;
-                // Each list is apart, live for the call and as long as stated, or empty.
-                same_answer(&format!("run {run}"), unsafe { yard_quote_duct(b.0, b.1, r.0, r.1, run, q.0, q.1, c.0, c.1) }, 1)?;
-            }
+            let (q, c) = (lent(&mut quote, missing & 4 != 0), lent(&mut crossings, missing & 8 != 0));
+            // Each list is apart, live for the call and as long as stated, or empty.
+            not_quoted(|b, r, run| unsafe { yard_quote_duct(b.0, b.1, r.0, r.1, run, q.0, q.1, c.0, c.1) }, missing, calls)?;
             if quote == [7; 3] && crossings == [7; 8712] { Ok(()) } else { Err(format!("quote {quote:?}")) }
+        });
+    }
+    for missing in 1..8 {
+        report.case(&format!("lists {missing:03b} of a route's quote NULL"), |calls| {
+            let mut route = vec![7u32; 197];
+            let w = lent(&mut route, missing & 4 != 0);
+            // Each list is apart, live for the call and as long as stated, or empty.
+            not_quoted(|b, r, run| unsafe { yard_quote_route(b.0, b.1, r.0, r.1, run, w.0, w.1) }, missing, calls)?;
+            if route == [7; 197] { Ok(()) } else { Err(format!("route {route:?}")) }
         });
     }
 }

@@ -2,20 +2,22 @@
 //! cases again.
 
 use crate::degenerate;
-use crate::random::{self, Random, FULL, STYLES};
+use crate::random::{self, Random};
 use crate::tables::Planner;
 use crate::{random_list, Report};
 use std::time::{Duration, Instant};
 
 fn one(p: &impl Planner, k: u64, r: &mut Random, calls: &mut usize) -> Result<(), String> {
-    match k % 4 {
+    match k % 5 {
         0 => degenerate::one(p, r, calls),
         #[cfg(not(plain))]
         1 => crate::replaying::one(r, calls),
         #[cfg(not(plain))]
         2 => crate::ducts::one(r, calls),
+        #[cfg(not(plain))]
+        3 => crate::quotes::one(r, calls),
         _ => {
-            let s = if r.percent(10) { r.pick(&FULL) } else { r.pick(&STYLES) };
+            let s = random::any_style(r);
             let edits = random::list(r, &s, 60);
             random_list(p, &edits, true, calls)
         }

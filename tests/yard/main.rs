@@ -15,10 +15,14 @@ mod empty_lists;
 mod files;
 mod fuzz;
 #[cfg(not(plain))]
+mod lent;
+#[cfg(not(plain))]
 #[path = "../../bindings/linked.rs"]
 mod linked;
 #[cfg(plain)]
 mod plain_planner;
+#[cfg(not(plain))]
+mod quotes;
 mod random;
 #[cfg(not(plain))]
 #[path = "../files/reader.rs"]
@@ -517,6 +521,8 @@ fn main() {
         report.end_group("lists that are NULL");
         ducts::ducts(&mut report);
         report.end_group("ducts");
+        quotes::quotes(&mut report);
+        report.end_group("quotes");
     }
     fuzz::fuzz(&p, &mut report, seconds, seed);
     report.end_group("fuzzing");

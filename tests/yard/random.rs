@@ -71,6 +71,10 @@ pub const FULL: [Style; 3] = [
     Style { name: "full, large", low: 0, high: 32767, size: 5000, blocks: 24, runs: 24 },
 ];
 
+pub fn any_style(r: &mut Random) -> Style {
+    if r.percent(10) { r.pick(&FULL) } else { r.pick(&STYLES) }
+}
+
 fn place(r: &mut Random, s: &Style) -> Place {
     (r.between(s.low, s.high), r.between(s.low, s.high))
 }

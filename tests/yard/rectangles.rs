@@ -6,7 +6,7 @@ use crate::tables::{pair_index, Edit, Planner, Tables};
 use crate::{same_answer, same_tables, Report};
 
 /// Blocks of 3 to 8 corners inside the grid.
-const SHAPES: [&[(u16, u16)]; 9] = [
+pub const SHAPES: [&[(u16, u16)]; 9] = [
     &[(1, 2), (8, 1), (4, 8)],
     &[(8, 8), (1, 8), (8, 1)],
     &[(2, 2), (7, 2), (7, 7), (2, 7)],
@@ -35,6 +35,17 @@ fn yard(number: u32, corners: &[(u16, u16)], g: usize, h: usize) -> Book {
     book
 }
 
+fn number(s: usize, turn: usize) -> u32 {
+    ((5 * s + turn) % 24) as u32
+}
+
+/// The shape from a corner on, with the runs of every two groups.
+pub fn yards(s: usize, turn: usize) -> Vec<Book> {
+    let corners = [&SHAPES[s][turn..], &SHAPES[s][..turn]].concat();
+    let groups = (0..GROUPS).flat_map(|g| (0..g).map(move |h| (g, h)));
+    groups.map(|(g, h)| yard(number(s, turn), &corners, g, h)).collect()
+}
+
 /// The bytes of present marks as if nothing were hidden.
 fn unhidden(drawing: &Tables) -> Tables {
     let mut t = drawing.clone();
@@ -51,13 +62,11 @@ pub fn edges(p: &impl Planner, report: &mut Report) {
     for (s, shape) in SHAPES.iter().enumerate() {
         for turn in 0..shape.len() {
             report.case(&format!("shape {s} from corner {turn} on"), |calls| {
-                let corners = [&shape[turn..], &shape[..turn]].concat();
-                let number = ((5 * s + turn) % 24) as u32;
-                for (g, h) in (0..GROUPS).flat_map(|g| (0..g).map(move |h| (g, h))) {
-                    let right = yard(number, &corners, g, h).drawing();
+                for book in yards(s, turn) {
+                    let right = book.drawing();
                     same_answer("check", p.check(&right), 0)?;
                     let mut t = unhidden(&right);
-                    same_answer("move", p.edit(&mut t, &Edit::MoveBlock(number, 0, 0)), 0)?;
+                    same_answer("move", p.edit(&mut t, &Edit::MoveBlock(number(s, turn), 0, 0)), 0)?;
                     same_tables("a move by nothing over unhidden bytes", &t, &right)?;
                     *calls += 2;
                 }
