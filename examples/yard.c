@@ -1,6 +1,7 @@
 /* Yards over the library's C interface: one that is edited call by call, and one that a yard file describes. */
 #include <inttypes.h>
 #include <stdio.h>
+#include <string.h>
 
 #include "yard.h"
 
@@ -82,6 +83,14 @@ static void replay(const char *what, const uint8_t *bytes, size_t len) {
     print_route(0);
 }
 
+/* The route of run 0 as a till asks for it, with no pairs and no routes. */
+static void quote_route(void) {
+    uint32_t route[YARD_ROUTE_WORDS];
+
+    answer("route of run 0", yard_quote_route(YARD_RECORDS(&yard), 0, route, YARD_ROUTE_WORDS));
+    printf("length %" PRIu32 ", %sas stored\n", route[1], memcmp(route, yard.routes, sizeof route) == 0 ? "" : "not ");
+}
+
 static void print_duct(void) {
     static uint16_t crossings[YARD_DUCT_CROSSINGS_LEN];
     uint32_t quote[YARD_DUCT_QUOTE_LEN];
@@ -97,6 +106,7 @@ int main(void) {
     edit_by_calls();
     print_records();
     replay("replay the file", file, sizeof file);
+    quote_route();
     print_duct();
     replay("replay it with its last byte cut off", file, sizeof file - 1);
     replay("replay no file", NULL, 0);

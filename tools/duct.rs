@@ -1,8 +1,8 @@
 //! Lists the ducts of a yard file's runs: the cost, the two ends, and each crossing where the duct changes direction.
 
+mod lists;
 mod yards;
 
-use std::path::Path;
 use std::process::ExitCode;
 use yards::{Duct, Place, Tables, Way};
 
@@ -17,27 +17,12 @@ fn way_lines(run: u32, way: &Way) -> String {
 
 fn duct_lines(t: &Tables, run: u32) -> String {
     match yards::duct(t, run) {
-        Duct::Refused(number) => format!("run {run} answer {number}\n"),
+        Duct::Refused(number) => lists::refused(run, number),
         Duct::NoWay => format!("run {run} duct no way\n"),
         Duct::Found(way) => way_lines(run, &way),
     }
 }
 
-/// The duct of one run, or those of every run of the yard.
-fn listing(file: &[u8], run: Option<u32>) -> String {
-    let yard = yards::replayed(file);
-    let stop = yard.stop.map_or(String::new(), |s| format!("stop {} at {}\n", s.number, s.at));
-    let all = (0..24).filter(|&m| yard.tables.runs[5 * m as usize] == 1);
-    let runs: Vec<u32> = run.map_or(all.collect(), |m| vec![m]);
-    stop + &runs.into_iter().map(|m| duct_lines(&yard.tables, m)).collect::<String>()
-}
-
 fn main() -> ExitCode {
-    let words: Vec<std::ffi::OsString> = std::env::args_os().skip(1).collect();
-    let number = words.get(1).map(|w| w.to_str().and_then(|w| w.parse::<u32>().ok()));
-    if words.is_empty() || words.len() > 2 || number == Some(None) {
-        return yards::misused("usage: yardduct FILE [RUN]");
-    }
-    let file = yards::bytes(Path::new(&words[0]));
-    yards::printed("yardduct", file.map(|file| listing(&file, number.flatten())))
+    lists::listed("yardduct", duct_lines)
 }

@@ -6,7 +6,7 @@
 mod abi;
 #[path = "../bindings/linked.rs"]
 #[allow(dead_code)]
-mod linked;
+pub mod linked;
 #[path = "../bindings/tables.rs"]
 #[allow(dead_code)]
 mod tables;
