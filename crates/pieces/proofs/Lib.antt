@@ -1,0 +1,5 @@
+pub mod Pieces
+pub mod Joins
+pub mod Spots
+pub mod Rows
+pub mod Exists
