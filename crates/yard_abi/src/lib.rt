@@ -8,6 +8,7 @@ ghost use Rattle.book.specs.Book.{addBlock, removeBlock, moveBlock, addRun, rem
 ghost use Rattle.book.specs.Edits.{Started, Called, Checked};
 ghost use Rattle.counter.specs.Quote.{RouteQuoted};
 ghost use Rattle.ducts.specs.Quote.{DuctQuoted};
+ghost use Rattle.drawn_routes.specs.Lists.{PieceFilled, BendFilled};
 ghost use Rattle.yard_abi.specs.Reading.{ReadInto};
 ghost use Rattle.yard_abi.specs.Replaying.{ReplayedInto};
 use geometry::Place;
@@ -244,4 +245,38 @@ pub extern "C" fn yard_quote_duct(
         r (now (quote .exit)) (now (crossings .exit)) ⌝ }
 {
     ducts::quote_duct(blocks, runs, run, quote, crossings)
+}
+
+#[no_mangle]
+pub extern "C" fn yard_piece(
+    blocks: &[u16],
+    runs: &[u16],
+    pairs: &[u8],
+    routes: &[u32],
+    run: u32,
+    piece: u32,
+    kind: &mut [u32],
+    points: &mut [f64],
+) -> u32
+    ensures { λ r. ⌜ PieceFilled (tables (now (blocks .entry)) (now (runs .entry)) (now (pairs .entry)) (now (routes .entry)))
+        run piece (now (kind .entry)) (now (points .entry)) r (now (kind .exit)) (now (points .exit)) ⌝ }
+{
+    drawn_routes::fill_piece(blocks, runs, pairs, routes, run, piece, kind, points)
+}
+
+#[no_mangle]
+pub extern "C" fn yard_bend(
+    blocks: &[u16],
+    runs: &[u16],
+    pairs: &[u8],
+    routes: &[u32],
+    run: u32,
+    piece: u32,
+    kind: &mut [u32],
+    points: &mut [f64],
+) -> u32
+    ensures { λ r. ⌜ BendFilled (tables (now (blocks .entry)) (now (runs .entry)) (now (pairs .entry)) (now (routes .entry)))
+        run piece (now (kind .entry)) (now (points .entry)) r (now (kind .exit)) (now (points .exit)) ⌝ }
+{
+    drawn_routes::fill_bend(blocks, runs, pairs, routes, run, piece, kind, points)
 }
