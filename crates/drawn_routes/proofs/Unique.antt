@@ -87,9 +87,9 @@ curved-unique T m k xs ys zs r r′ a b = go (ℕ-discrete (shownNumber r) 0)
         let w : shownNumber r′ ≡ 0 → ⊥ = λ e. z (same ∙ e) in
         (shown-refusal r z ∙ ap no-points same ∙ sym (shown-refusal r′ w), a .refused z ∙ sym (b .refused w))
 
-pub into-unique : (n : ℕ) (kind : Shape → ℕ) (row : Shape → ℕ → Point) (T : Tables) (m k : ℕ) (w w₁ w₂ : List ℕ) (xs xs₁ xs₂ : List Float) (r r′ : ℕ)
+pub filled-unique : (n : ℕ) (kind : Shape → ℕ) (row : Shape → ℕ → Point) (T : Tables) (m k : ℕ) (w w₁ w₂ : List ℕ) (xs xs₁ xs₂ : List Float) (r r′ : ℕ)
     → Filled n kind row T m k w xs r w₁ xs₁ → Filled n kind row T m k w xs r′ w₂ xs₂ → (r ≡ r′) × (w₁ ≡ w₂) × (xs₁ ≡ xs₂)
-into-unique n kind row T m k w w₁ w₂ xs xs₁ xs₂ r r′ a b = go (ℕ-discrete r 0)
+filled-unique n kind row T m k w w₁ w₂ xs xs₁ xs₂ r r′ a b = go (ℕ-discrete r 0)
   where
     same : r ≡ r′
     same = asked-unique _ T m _ _ (a .asked) (b .asked)
