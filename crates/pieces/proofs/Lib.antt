@@ -3,3 +3,4 @@ pub mod Joins
 pub mod Spots
 pub mod Rows
 pub mod Exists
+pub mod Examples
