@@ -33,6 +33,14 @@ extern "C" {
     pub fn yard_check(
         b: *const u16, bl: usize, r: *const u16, rl: usize, p: *const u8, pl: usize, w: *const u32, wl: usize,
     ) -> u32;
+    pub fn yard_piece(
+        b: *const u16, bl: usize, r: *const u16, rl: usize, p: *const u8, pl: usize, w: *const u32, wl: usize,
+        run: u32, piece: u32, kind: *mut u32, kind_len: usize, points: *mut f64, points_len: usize,
+    ) -> u32;
+    pub fn yard_bend(
+        b: *const u16, bl: usize, r: *const u16, rl: usize, p: *const u8, pl: usize, w: *const u32, wl: usize,
+        run: u32, piece: u32, kind: *mut u32, kind_len: usize, points: *mut f64, points_len: usize,
+    ) -> u32;
     pub fn yard_quote_route(
         b: *const u16, bl: usize, r: *const u16, rl: usize, run: u32, route: *mut u32, route_len: usize,
     ) -> u32;

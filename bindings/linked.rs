@@ -55,6 +55,16 @@ macro_rules! fenced_call {
     }};
 }
 
+/// A call that is lent the four tables to read.
+macro_rules! reading_call {
+    ($t:expr, $f:ident $(, $arg:expr)*) => {{
+        let mut copy = $t.clone();
+        let answer = fenced_call!(copy, $f $(, $arg)*);
+        assert!(copy == *$t, "the call changed a table");
+        answer
+    }};
+}
+
 impl Planner for Linked {
     fn start(&self, t: &mut Tables) -> u32 {
         fenced_call!(t, yard_start)
@@ -72,11 +82,34 @@ impl Planner for Linked {
     }
 
     fn check(&self, t: &Tables) -> u32 {
-        let mut copy = t.clone();
-        let answer = fenced_call!(copy, yard_check);
-        assert!(copy == *t, "the check changed a table");
-        answer
+        reading_call!(t, yard_check)
     }
+}
+
+/// A call that draws: `yard_piece` or `yard_bend`.
+type Draw = unsafe extern "C" fn(
+    *const u16, usize, *const u16, usize, *const u8, usize, *const u32, usize, u32, u32, *mut u32, usize, *mut f64, usize,
+) -> u32;
+
+/// The floats go in, and are compared, as their bits.
+fn drawn(draw: Draw, t: &Tables, run: u32, piece: u32, kind: &mut [u32], points: &mut [f64]) -> u32 {
+    let mut bits: Vec<u64> = points.iter().map(|p| p.to_bits()).collect();
+    let (mut k, mut p) = (Fenced::new(kind, 0x5A5A_5A5A), Fenced::new(&bits, 0x5A5A_5A5A_5A5A_5A5A));
+    let answer = reading_call!(t, draw, run, piece, k.ptr(), k.len, p.ptr().cast(), p.len);
+    k.take(kind, "the kind");
+    p.take(&mut bits, "the points");
+    points.iter_mut().zip(bits).for_each(|(point, bits)| *point = f64::from_bits(bits));
+    answer
+}
+
+/// How a piece of a run's route is drawn: the number, and the two lists as the call leaves them.
+pub fn piece(t: &Tables, run: u32, piece: u32, kind: &mut [u32], points: &mut [f64]) -> u32 {
+    drawn(yard_piece, t, run, piece, kind, points)
+}
+
+/// The nine points of a piece that is a bend, alike.
+pub fn bend(t: &Tables, run: u32, piece: u32, kind: &mut [u32], points: &mut [f64]) -> u32 {
+    drawn(yard_bend, t, run, piece, kind, points)
 }
 
 /// A quote, which is lent blocks and runs to read.

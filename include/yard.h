@@ -6,8 +6,8 @@
  * The caller owns four tables, best in a struct yard, and lends them to every call but yard_read, each as a pointer and
  * a length in elements; a quote is lent blocks and runs alone. The lengths must be exactly those below. Together the
  * tables take 48,648 bytes. No table or list that a call is lent may overlap another, be it corners, a file, an item,
- * answers, an end or a quote. Every pointer must be valid for its length and aligned for its element type; NULL is
- * allowed with length 0 alone, and is then an empty list.
+ * answers, an end, a quote, a kind or points. Every pointer must be valid for its length and aligned for its element
+ * type; NULL is allowed with length 0 alone, and is then an empty list.
  *
  * A call keeps nothing: there is no hidden state, no heap and no I/O. Calls on different tables may run at the same
  * time; calls on the same tables must not, except those that take them const beside each other. A call uses about 4 KiB
@@ -80,13 +80,13 @@ struct yard {
 #define YARD_WRONG_RECORD 2     /* a stored block or run is not one that these calls write */
 #define YARD_WRONG_NUMBER 3     /* the number is not below 24 */
 #define YARD_NOT_FREE 4         /* adding: the number is taken */
-#define YARD_NOT_TAKEN 5        /* removing, moving or quoting: the number is free */
+#define YARD_NOT_TAKEN 5        /* removing, moving, quoting or drawing: the number is free */
 #define YARD_WRONG_COUNT 6      /* adding a block: not 3 to 8 whole corners */
 #define YARD_WRONG_COORDINATE 7 /* a new or moved coordinate is not from 0 to 32,767 */
 #define YARD_NOT_CONVEX 8       /* adding a block: some corner is not strictly left of every side that it is not on */
 #define YARD_NOT_A_FILE 9       /* yard_read, yard_replay: not 5 to 8,192 bytes, the letters YRD and version 1 */
 #define YARD_NOT_A_RECORD 10    /* yard_read, yard_replay: outside the file, the kind unknown or the record cut off */
-#define YARD_NOT_DRAWN 11       /* yard_check: a byte of pairs or routes is not what blocks and runs require */
+#define YARD_NOT_DRAWN 11       /* checking or drawing: a byte of pairs or routes is not what blocks and runs require */
 #define YARD_TOO_MANY_BLOCKS 12 /* yard_quote_duct: more than 8 blocks stand */
 
 /* An empty yard, whatever the tables held. Answers 0 or 1. */
@@ -124,6 +124,39 @@ uint32_t yard_move_run(uint16_t *blocks, size_t blocks_len, uint16_t *runs, size
 /* Are pairs and routes what blocks and runs require? Changes nothing. Answers 0, 1, 2 or 11. */
 uint32_t yard_check(const uint16_t *blocks, size_t blocks_len, const uint16_t *runs, size_t runs_len,
                     const uint8_t *pairs, size_t pairs_len, const uint32_t *routes, size_t routes_len);
+
+/*
+ * How a run's route is drawn: as pieces, straight and bend in turn, numbered from 0. A route with k marks between its
+ * ends has pieces 0 to 2 * k, and those with odd numbers are bends; a run with no way has none. At a mark P between
+ * marks A and C the bend starts at P + (A - P) / 8 and finishes at P + (C - P) / 8; its corner is P. The straights go
+ * from the first end to the first start, from each finish to the next start, and from the last finish to the second
+ * end. A bend is the cubic Bezier curve from its start to its finish with both control points at its corner, shown at
+ * nine points, t = 0 to 8 eighths. A point is two doubles, east then north; each is exact, a whole number of 4,096ths.
+ *
+ * kind has exactly YARD_KIND_LEN words and is set to YARD_PIECE_.. . yard_piece fills points, which has exactly
+ * YARD_PIECE_POINTS_LEN doubles, with the two points of a straight or with start, corner and finish of a bend.
+ * yard_bend fills points, which has exactly YARD_BEND_POINTS_LEN doubles, with the nine points of a bend in order of t;
+ * for any other number its kind is YARD_PIECE_NONE. Every double that is not filled is 0. Where there is no such piece,
+ * the answer is 0 too, with YARD_PIECE_NONE and points all 0.
+ *
+ * The tables are only read. Each call asks of all of them what yard_check asks, and costs as much as one. A run is
+ * priced by the marks in routes, never by its drawing. Both answer 0 to 3, 5 and 11.
+ */
+#define YARD_KIND_LEN 1
+#define YARD_PIECE_POINTS_LEN 6
+#define YARD_BEND_POINTS_LEN 18
+
+#define YARD_PIECE_NONE 0
+#define YARD_PIECE_STRAIGHT 1
+#define YARD_PIECE_BEND 2
+
+uint32_t yard_piece(const uint16_t *blocks, size_t blocks_len, const uint16_t *runs, size_t runs_len,
+                    const uint8_t *pairs, size_t pairs_len, const uint32_t *routes, size_t routes_len, uint32_t run,
+                    uint32_t piece, uint32_t *kind, size_t kind_len, double *points, size_t points_len);
+
+uint32_t yard_bend(const uint16_t *blocks, size_t blocks_len, const uint16_t *runs, size_t runs_len,
+                   const uint8_t *pairs, size_t pairs_len, const uint32_t *routes, size_t routes_len, uint32_t run,
+                   uint32_t piece, uint32_t *kind, size_t kind_len, double *points, size_t points_len);
 
 /*
  * The route of a run from blocks and runs alone, where there is no memory for pairs: whether a straight is hidden is
