@@ -42,7 +42,7 @@ impl Lists for Duct {
         }
     }
 
-    fn due(book: &Book, run: usize) -> Result<Duct, u32> {
+    fn due(&self, _: &Tables, book: &Book, run: usize) -> Result<Duct, u32> {
         if book.blocks.iter().filter(|b| !b.is_empty()).count() > 8 {
             return Err(12);
         }

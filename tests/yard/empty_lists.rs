@@ -147,10 +147,31 @@ fn quoting(report: &mut Report) {
     }
 }
 
+fn drawing(report: &mut Report) {
+    for missing in 1..64 {
+        report.case(&format!("lists {missing:06b} of a call that draws NULL"), |calls| {
+            let before = yard();
+            let mut t = before.clone();
+            let (mut kind, mut points) = ([7u32], [7.0; 18]);
+            for run in [4, 0, 24] {
+                let k = lent(&mut kind, missing & 16 != 0);
+                let six = lent(&mut points[..6], missing & 32 != 0);
+                same_answer("piece", with_tables!(t, missing, yard_piece, run, 0, k.0, k.1, six.0, six.1), 1)?;
+                let nine = lent(&mut points, missing & 32 != 0);
+                same_answer("bend", with_tables!(t, missing, yard_bend, run, 1, k.0, k.1, nine.0, nine.1), 1)?;
+                *calls += 2;
+            }
+            same_tables("nothing is stored", &t, &before)?;
+            if kind == [7] && points == [7.0; 18] { Ok(()) } else { Err(format!("kind {kind:?} points {points:?}")) }
+        });
+    }
+}
+
 pub fn empty_lists(report: &mut Report) {
     tables(report);
     corners(report);
     reading(report);
     replaying(report);
     quoting(report);
+    drawing(report);
 }

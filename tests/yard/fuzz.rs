@@ -8,7 +8,7 @@ use crate::{random_list, Report};
 use std::time::{Duration, Instant};
 
 fn one(p: &impl Planner, k: u64, r: &mut Random, calls: &mut usize) -> Result<(), String> {
-    match k % 5 {
+    match k % 6 {
         0 => degenerate::one(p, r, calls),
         #[cfg(not(plain))]
         1 => crate::replaying::one(r, calls),
@@ -16,6 +16,8 @@ fn one(p: &impl Planner, k: u64, r: &mut Random, calls: &mut usize) -> Result<()
         2 => crate::ducts::one(r, calls),
         #[cfg(not(plain))]
         3 => crate::quotes::one(r, calls),
+        #[cfg(not(plain))]
+        4 => crate::pieces::one(r, calls),
         _ => {
             let s = random::any_style(r);
             let edits = random::list(r, &s, 60);

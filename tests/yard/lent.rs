@@ -1,16 +1,18 @@
-//! A quote is lent blocks, runs and lists of its own: what its call must make of them, and the cases in which every quote
-//! is refused.
+//! A quote is lent blocks, runs and lists of its own, and a call that draws the other two tables as well: what such a call
+//! must make of them, and the cases in which every one is refused.
 
 use crate::duct_yards::{seeded, shown, SMALL};
 use crate::random::Random;
 use crate::reference::{stored_book, Book};
-use crate::tables::{Tables, BLOCKS, RUNS};
-use crate::{same_answer, scramble, Report};
+use crate::tables::{Tables, BLOCKS, PAIRS, ROUTES, RUNS};
+use crate::{same_answer, scramble, spoil, Report};
 
-/// The lists that a quote fills.
+/// The lists that a call fills.
 pub trait Lists: Clone {
     const NAME: &'static str;
     const COUNT: usize;
+    /// Whether the call is lent pairs and routes too.
+    const DRAWS: bool = false;
     /// The numbers that calls over changed records get.
     const NUMBERS: &'static [usize];
     /// With words that an accepted call must overwrite.
@@ -18,7 +20,7 @@ pub trait Lists: Clone {
     fn lengths_right(&self) -> bool;
     fn resize(&mut self, list: usize, other: impl Fn(usize) -> usize);
     /// What an accepted call leaves, or the number of a question of its own.
-    fn due(book: &Book, run: usize) -> Result<Self, u32>;
+    fn due(&self, t: &Tables, book: &Book, run: usize) -> Result<Self, u32>;
     fn call(&mut self, t: &Tables, run: u32) -> u32;
     fn difference(&self, due: &Self) -> Option<String>;
 }
@@ -39,22 +41,49 @@ pub struct Lent<L> {
 }
 
 impl<L: Lists> Lent<L> {
-    /// A book's records and any lists.
+    /// How many tables the call is lent.
+    const TABLES: usize = if L::DRAWS { 4 } else { 2 };
+
+    /// A book's records, or its whole drawing, and any lists.
     pub fn new(r: &mut Random, book: &Book) -> Lent<L> {
+        if L::DRAWS {
+            return Lent::over(r, book.drawing());
+        }
         let mut tables = Tables { blocks: vec![0; BLOCKS], runs: vec![0; RUNS], pairs: vec![], routes: vec![] };
         book.write_records(&mut tables);
+        Lent::over(r, tables)
+    }
+
+    pub fn over(r: &mut Random, tables: Tables) -> Lent<L> {
         Lent { tables, lists: L::filled(r) }
     }
 
+    fn lengths_right(&self) -> bool {
+        let t = &self.tables;
+        let others = if L::DRAWS { (PAIRS, ROUTES) } else { (0, 0) };
+        (t.blocks.len(), t.runs.len()) == (BLOCKS, RUNS) && (t.pairs.len(), t.routes.len()) == others && self.lists.lengths_right()
+    }
+
     fn quoted(&self, run: u32) -> Result<L, u32> {
-        if (self.tables.blocks.len(), self.tables.runs.len()) != (BLOCKS, RUNS) || !self.lists.lengths_right() {
+        if !self.lengths_right() {
             return Err(1);
         }
         let book = stored_book(&self.tables).ok_or(2u32)?;
         match book.runs.get(run as usize) {
             None => Err(3),
             Some(ends) if ends.is_empty() => Err(5),
-            Some(_) => L::due(&book, run as usize),
+            Some(_) => self.lists.due(&self.tables, &book, run as usize),
+        }
+    }
+
+    /// The list with this number: the tables first, then the call's own.
+    fn resize(&mut self, list: usize, other: impl Fn(usize) -> usize) {
+        match list {
+            0 => self.tables.blocks.resize(other(BLOCKS), 0),
+            1 => self.tables.runs.resize(other(RUNS), 0),
+            2 if L::DRAWS => self.tables.pairs.resize(other(PAIRS), 255),
+            3 if L::DRAWS => self.tables.routes.resize(other(ROUTES), 0),
+            own => self.lists.resize(own - Self::TABLES, other),
         }
     }
 
@@ -68,7 +97,7 @@ impl<L: Lists> Lent<L> {
         let mut lists = self.lists.clone();
         let answer = lists.call(&self.tables, run);
         let (right, due) = self.due(run);
-        same_answer("quote", answer, right)?;
+        same_answer(L::NAME, answer, right)?;
         lists.difference(&due).map_or(Ok(right), |why| Err(format!("answer {right}, {why}")))
     }
 
@@ -130,7 +159,7 @@ pub fn refusals<L: Lists>(report: &mut Report) {
 
 /// Every length wrong alone and together with others, over yards that other questions fail for too.
 fn wrong_lengths<L: Lists>(report: &mut Report) {
-    for list in 0..2 + L::COUNT {
+    for list in 0..Lent::<L>::TABLES + L::COUNT {
         report.case(&format!("{}, list {list} of another length", L::NAME), |calls| {
             for k in 0..60 {
                 let mut r = seeded(430_000 + 100 * list + k);
@@ -140,15 +169,12 @@ fn wrong_lengths<L: Lists>(report: &mut Report) {
                 if r.percent(40) {
                     scramble(&mut r, &mut lent.tables);
                 }
-                let also = r.below(8);
-                for list in [list, also] {
-                    let other = |right: usize| [0, right - 1, right + 1, 1, right / 2, 2 * right][k % 6];
-                    match list {
-                        0 => lent.tables.blocks.resize(other(BLOCKS), 0),
-                        1 => lent.tables.runs.resize(other(RUNS), 0),
-                        own => lent.lists.resize(own - 2, other),
-                    }
+                if L::DRAWS && r.percent(40) {
+                    spoil(&mut r, &mut lent.tables);
                 }
+                let other = |right: usize| [0, right - 1, right + 1, if right == 1 { 3 } else { 1 }, right / 2, 2 * right][k % 6];
+                lent.resize(list, other);
+                lent.resize(r.below(8), other);
                 lent.answered(r.pick(&[3, 3, 4, 24, u32::MAX]), 1, calls)?;
             }
             Ok(())
@@ -225,6 +251,9 @@ fn changed_records<L: Lists>(report: &mut Report) {
                 let book = yard_of(&mut r, blocks, run);
                 let mut lent = Lent::<L>::new(&mut r, &book);
                 scramble(&mut r, &mut lent.tables);
+                if let (true, Some(book)) = (L::DRAWS && r.percent(50), stored_book(&lent.tables)) {
+                    lent.tables = book.drawing();
+                }
                 let asked = if r.percent(70) { run as u32 } else { r.pick(&[0, 23, 24, u32::MAX]) };
                 let words = format!("run {asked} over blocks {:?} runs {:?}", lent.tables.blocks, lent.tables.runs);
                 numbers[lent.call(asked).map_err(|why| format!("{why}: {words}"))? as usize] += 1;
@@ -234,7 +263,7 @@ fn changed_records<L: Lists>(report: &mut Report) {
         });
     }
     report.case(&format!("{}, every number often enough", L::NAME), |_| {
-        let few = L::NUMBERS.iter().any(|&n| numbers[n] < 20) || numbers[2] < 400;
+        let few = L::NUMBERS.iter().any(|&n| numbers[n] < 15) || numbers[2] < 400;
         if few { Err(format!("{numbers:?}")) } else { Ok(()) }
     });
 }

@@ -3,6 +3,8 @@
 #[cfg(not(plain))]
 #[path = "../../bindings/abi.rs"]
 mod abi;
+#[cfg(not(plain))]
+mod bends;
 mod degenerate;
 mod duct_router;
 mod duct_yards;
@@ -19,6 +21,8 @@ mod lent;
 #[cfg(not(plain))]
 #[path = "../../bindings/linked.rs"]
 mod linked;
+#[cfg(not(plain))]
+mod pieces;
 #[cfg(plain)]
 mod plain_planner;
 #[cfg(not(plain))]
@@ -523,6 +527,8 @@ fn main() {
         report.end_group("ducts");
         quotes::quotes(&mut report);
         report.end_group("quotes");
+        pieces::pieces(&mut report);
+        report.end_group("pieces");
     }
     fuzz::fuzz(&p, &mut report, seconds, seed);
     report.end_group("fuzzing");

@@ -37,7 +37,7 @@ impl Lists for Route {
     }
 
     /// Other runs have no part in a route.
-    fn due(book: &Book, run: usize) -> Result<Route, u32> {
+    fn due(&self, _: &Tables, book: &Book, run: usize) -> Result<Route, u32> {
         let mut alone = Book::new();
         alone.blocks.clone_from(&book.blocks);
         alone.runs[run].clone_from(&book.runs[run]);
@@ -157,7 +157,7 @@ fn lattice_yards(report: &mut Report) {
 }
 
 /// Through a closed yard that twenty walls bar in turn.
-fn zigzag(r: &mut Random, gap: i64) -> Book {
+pub fn zigzag(r: &mut Random, gap: i64) -> Book {
     let (w, e, s, n) = (gap, 22 * gap, gap, 6 * gap);
     let bar = |k: i64| if k % 2 == 0 { [(k * gap, s), (k * gap, n - gap)] } else { [(k * gap, s + gap), (k * gap, n)] };
     let bars: Vec<[Place; 2]> = (2..22).map(bar).collect();

@@ -152,7 +152,7 @@ impl Book {
     }
 
     /// The place of each mark, if it is present.
-    fn marks(&self) -> Vec<Option<Place>> {
+    pub fn marks(&self) -> Vec<Option<Place>> {
         let corners = self.blocks.iter().flat_map(|b| (0..8).map(move |k| b.get(k).copied()));
         let ends = self.runs.iter().flat_map(|r| (0..2).map(move |k| r.get(k).copied()));
         corners.chain(ends).collect()
