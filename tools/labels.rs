@@ -1,6 +1,6 @@
 //! Places for the numbers of blocks, the numbers at the ends of runs and the labels of runs, so that they overlap little.
 
-use crate::plane::{along, centre, distance, distance_to, length, Box, Point};
+use crate::plane::{along, centre, distance, distance_to_line, length, Box, Point};
 
 pub struct Line {
     pub points: Vec<Point>,
@@ -65,9 +65,19 @@ fn beside(p: Point, wide: f64, tall: f64, by: f64) -> Vec<Box> {
         .collect()
 }
 
-/// The least costly of some boxes; the first of equals.
-fn least(candidates: Vec<(f64, Box)>) -> Option<Box> {
-    candidates.into_iter().reduce(|best, c| if c.0 < best.0 { c } else { best }).map(|c| c.1)
+/// The least costly of some boxes, by what each costs where it is, the labels under it and the rest. No cost is below 0, so
+/// that the rest is worked out only where it can matter.
+fn least(mut boxes: Vec<(f64, Box)>, placed: &[Box], rest: impl Fn(&Box) -> f64) -> Option<Box> {
+    boxes.sort_by(|a, b| a.0.total_cmp(&b.0));
+    let mut best = (f64::MAX, None);
+    for (here, b) in boxes {
+        let known = if here < best.0 { here + label_under(placed, &b) } else { break };
+        let cost = if known < best.0 { known + rest(&b) } else { continue };
+        if cost < best.0 {
+            best = (cost, Some(b));
+        }
+    }
+    best.1
 }
 
 /// In the middle of the block if it is free there, else near it.
@@ -82,21 +92,21 @@ fn place_number(page: &Page, k: usize, placed: &[Box]) -> Option<Box> {
         }
         boxes.extend(beside(c, *wide, *tall, 0.3).into_iter().map(|b| (9.0 + 0.1 * distance(b.centre(), middle), b)));
     }
-    least(boxes.into_iter().map(|(far, b)| (far + drawn_under(page, &b, None) + label_under(placed, &b), b)).collect())
+    least(boxes, placed, |b| drawn_under(page, b, None))
 }
 
 fn place_end(page: &Page, k: usize, placed: &[Box]) -> Option<Box> {
     let (at, wide, tall) = page.ends[k];
     let boxes = [1.3, 2.1].into_iter().flat_map(|by| beside(at, wide, tall, by).into_iter().map(move |b| (by, b)));
-    least(boxes.map(|(far, b)| (far + drawn_under(page, &b, None) + label_under(placed, &b), b)).collect())
+    least(boxes.collect(), placed, |b| drawn_under(page, b, None))
 }
 
 /// Near the middle of the line, better where no other line is close, and best where it shares no straight.
 fn place_label(page: &Page, k: usize, placed: &[Box]) -> Option<Box> {
     let line = &page.lines[k];
     let whole = length(&line.points);
-    let far_from = |p: Point, o: &Line| o.points.windows(2).map(|w| distance_to(p, w[0], w[1])).fold(f64::MAX, f64::min);
-    let nearest = |p: Point| page.lines.iter().enumerate().filter(|&(o, _)| o != k).map(|(_, o)| far_from(p, o)).fold(f64::MAX, f64::min);
+    let others = || page.lines.iter().enumerate().filter(|&(o, _)| o != k).map(|(_, o)| o);
+    let nearest = |p: Point| others().fold(f64::MAX, |least, o| distance_to_line(p, &o.points, least));
     let steps = (whole / 1.5).ceil().clamp(2.0, 200.0) as usize;
     let mut candidates = vec![];
     for s in 0..=steps {
@@ -112,8 +122,8 @@ fn place_label(page: &Page, k: usize, placed: &[Box]) -> Option<Box> {
         candidates.extend(beside(p, line.wide, line.tall, 1.3).into_iter().map(|b| (base + 0.5, b)));
     }
     // nearer to its own line than to another
-    let doubt = |b: &Box| 1.5 * (far_from(b.centre(), line) + 2.0 - nearest(b.centre())).max(0.0);
-    least(candidates.into_iter().map(|(base, b)| (base + doubt(&b) + drawn_under(page, &b, Some(k)) + label_under(placed, &b), b)).collect())
+    let doubt = |b: &Box| 1.5 * (distance_to_line(b.centre(), &line.points, f64::MAX) + 2.0 - nearest(b.centre())).max(0.0);
+    least(candidates, placed, |b| doubt(b) + drawn_under(page, b, Some(k)))
 }
 
 pub fn place(page: &Page) -> Placed {

@@ -34,8 +34,19 @@ impl Box {
         wide.max(0.0) * tall.max(0.0)
     }
 
+    fn spanning(a: Point, b: Point) -> Box {
+        Box { left: a.0.min(b.0), top: a.1.min(b.1), right: a.0.max(b.0), bottom: a.1.max(b.1) }
+    }
+
+    fn apart(&self, other: &Box) -> bool {
+        self.right < other.left || self.left > other.right || self.bottom < other.top || self.top > other.bottom
+    }
+
     /// The length of the part of a straight that lies in the box.
     pub fn part_of(&self, a: Point, b: Point) -> f64 {
+        if self.apart(&Box::spanning(a, b)) {
+            return 0.0;
+        }
         let (mut from, mut to) = (0.0f64, 1.0f64);
         for (at, by, low, high) in [(a.0, b.0 - a.0, self.left, self.right), (a.1, b.1 - a.1, self.top, self.bottom)] {
             if by == 0.0 {
@@ -56,8 +67,16 @@ pub fn distance(a: Point, b: Point) -> f64 {
     ((a.0 - b.0) * (a.0 - b.0) + (a.1 - b.1) * (a.1 - b.1)).sqrt()
 }
 
+/// From a point to the nearest of a line of straights where that is less than a limit, else the limit.
+pub fn distance_to_line(p: Point, line: &[Point], limit: f64) -> f64 {
+    line.windows(2).fold(limit, |least, w| {
+        let near = !Box::spanning(w[0], w[1]).apart(&Box::around(p, 2.0 * least, 2.0 * least));
+        if near { least.min(distance_to(p, w[0], w[1])) } else { least }
+    })
+}
+
 /// From a point to the nearest of a straight.
-pub fn distance_to(p: Point, a: Point, b: Point) -> f64 {
+fn distance_to(p: Point, a: Point, b: Point) -> f64 {
     let (east, down) = (b.0 - a.0, b.1 - a.1);
     let square = east * east + down * down;
     let t = if square == 0.0 { 0.0 } else { (((p.0 - a.0) * east + (p.1 - a.1) * down) / square).clamp(0.0, 1.0) };
