@@ -2,6 +2,7 @@
 
 use crate::labels::{self, Line, Page, Placed};
 use crate::plane::{Box, Point};
+use crate::rounded::{spot, Spot};
 use crate::yards::Place;
 use crate::{Run, Yard};
 use std::collections::BTreeMap;
@@ -75,7 +76,7 @@ const FOOTER: f64 = 16.0;
 
 impl Frame {
     pub fn new(yard: &Yard) -> Frame {
-        let places: Vec<Place> = yard.blocks.iter().flat_map(|b| &b.1).chain(yard.runs.iter().flat_map(|r| &r.places)).copied().collect();
+        let places: Vec<Place> = yard.blocks.iter().flat_map(|b| &b.1).chain(yard.runs.iter().flat_map(|r| &r.ends)).copied().collect();
         // at least 6 cm, with the places in the middle
         let range = |of: fn(&Place) -> u16| {
             let low = places.iter().map(of).min().unwrap_or(0) as f64;
@@ -108,8 +109,20 @@ impl Frame {
         10_000.0 / self.scale as f64
     }
 
-    pub fn point(&self, p: Place) -> Point {
-        (self.origin.0 + (p.0 as f64 - self.west) * self.by(), self.origin.1 - (p.1 as f64 - self.south) * self.by())
+    fn point(&self, at: Spot) -> Point {
+        (self.origin.0 + (at.0 - self.west) * self.by(), self.origin.1 - (at.1 - self.south) * self.by())
+    }
+
+    pub fn place(&self, p: Place) -> Point {
+        self.point(spot(p))
+    }
+
+    pub fn line(&self, line: &[Spot]) -> Vec<Point> {
+        line.iter().map(|&at| self.point(at)).collect()
+    }
+
+    pub fn places(&self, places: &[Place]) -> Vec<Point> {
+        places.iter().map(|&p| self.place(p)).collect()
     }
 
     fn scale_text(&self) -> String {
@@ -269,7 +282,7 @@ pub fn sheet(frame: &Frame, name: &str, more: &[&str]) -> Svg {
 
 /// The outlines of the blocks on the page.
 pub fn outlines(frame: &Frame, yard: &Yard) -> Vec<Vec<Point>> {
-    yard.blocks.iter().map(|b| b.1.iter().map(|&c| frame.point(c)).collect()).collect()
+    yard.blocks.iter().map(|b| frame.places(&b.1)).collect()
 }
 
 /// The numbers of the runs that end at a place.
@@ -295,11 +308,11 @@ fn ranges(numbers: &[usize]) -> Option<String> {
 fn endings(frame: &Frame, yard: &Yard) -> Vec<Ending> {
     let mut at: BTreeMap<Place, Vec<&Run>> = BTreeMap::new();
     for run in &yard.runs {
-        run.ends().into_iter().for_each(|end| at.entry(end).or_default().push(run));
+        run.ends.into_iter().for_each(|end| at.entry(end).or_default().push(run));
     }
     let ending = |(place, runs): (Place, Vec<&Run>)| {
         let text = ranges(&runs.iter().map(|r| r.number).collect::<Vec<_>>())?;
-        Some(Ending { at: frame.point(place), text, lost: runs.iter().all(|r| r.length.is_none()) })
+        Some(Ending { at: frame.place(place), text, lost: runs.iter().all(|r| r.length.is_none()) })
     };
     at.into_iter().filter_map(ending).collect()
 }
@@ -335,7 +348,7 @@ pub fn svg(name: &str, yard: &Yard) -> String {
     let mut svg = sheet(&frame, name, &[]);
     head(&mut svg, &frame, name, yard, None);
 
-    let lines: Vec<Vec<Point>> = yard.runs.iter().map(|r| r.places.iter().map(|&p| frame.point(p)).collect()).collect();
+    let lines: Vec<Vec<Point>> = yard.runs.iter().map(|r| frame.line(&r.line)).collect();
     let texts: Vec<String> = yard
         .runs
         .iter()
@@ -354,7 +367,7 @@ pub fn svg(name: &str, yard: &Yard) -> String {
         svg.path(&class("route", run.length.is_none()), line, false);
     }
     for run in &yard.runs {
-        run.ends().iter().for_each(|&end| svg.circle(&class("end", run.length.is_none()), frame.point(end)));
+        run.ends.iter().for_each(|&end| svg.circle(&class("end", run.length.is_none()), frame.place(end)));
     }
     set_numbers(&mut svg, yard, &placed.numbers);
     for (ending, b) in endings.iter().zip(&placed.ends) {

@@ -39,7 +39,7 @@ fn note(run: u32, duct: &Duct) -> Note {
 
 /// The straights through every corner and both ends, as far as the outermost of them.
 fn grid(yard: &Yard, run: &Run) -> Vec<[Place; 2]> {
-    let places: Vec<Place> = yard.blocks.iter().flat_map(|b| &b.1).copied().chain(run.ends()).collect();
+    let places: Vec<Place> = yard.blocks.iter().flat_map(|b| &b.1).copied().chain(run.ends).collect();
     let sorted = |of: fn(&Place) -> u16| {
         let mut all: Vec<u16> = places.iter().map(of).collect();
         all.sort();
@@ -70,10 +70,10 @@ fn bends(way: &Way) -> Vec<Place> {
 }
 
 fn draw_way(svg: &mut Svg, frame: &Frame, way: &Way) {
-    let line: Vec<Point> = bends(way).into_iter().map(|p| frame.point(p)).collect();
+    let line = frame.places(&bends(way));
     pipe(svg, &line);
     for &c in &way.crossings {
-        let at = frame.point(c);
+        let at = frame.place(c);
         svg.line(format_args!("<circle class=\"passed\" cx=\"{:.2}\" cy=\"{:.2}\" r=\"0.25\"/>", at.0, at.1));
     }
     line[1..line.len() - 1].iter().for_each(|&p| square(svg, p));
@@ -107,11 +107,11 @@ fn key(svg: &mut Svg, frame: &Frame) {
 }
 
 /// The line that a label belongs to, and its text; a route is a line without one.
-fn labelled(run: u32, duct: &Duct, drawn: Option<&Run>) -> Vec<(Vec<Place>, String)> {
-    let route = drawn.filter(|r| r.length.is_some()).map(|r| (r.places.clone(), String::new()));
+fn labelled(frame: &Frame, run: u32, duct: &Duct, drawn: Option<&Run>) -> Vec<(Vec<Point>, String)> {
+    let route = drawn.filter(|r| r.length.is_some()).map(|r| (frame.line(&r.line), String::new()));
     let own = match (duct, drawn) {
-        (Duct::Found(way), _) => Some((bends(way), format!("run {run}: cost {}", way.cost))),
-        (Duct::NoWay, Some(r)) => Some((r.ends().to_vec(), format!("run {run}: no way"))),
+        (Duct::Found(way), _) => Some((frame.places(&bends(way)), format!("run {run}: cost {}", way.cost))),
+        (Duct::NoWay, Some(r)) => Some((frame.places(&r.ends), format!("run {run}: no way"))),
         _ => None,
     };
     own.into_iter().chain(route).collect()
@@ -122,21 +122,20 @@ pub fn svg(name: &str, yard: &Yard, run: u32, duct: &Duct) -> String {
     let mut svg = sheet(&frame, name, &STYLES);
     head(&mut svg, &frame, name, yard, Some(note(run, duct)));
     let drawn = yard.runs.iter().find(|r| r.number as u32 == run);
-    let points = |places: &[Place]| -> Vec<Point> { places.iter().map(|&p| frame.point(p)).collect() };
-    let (lines, texts): (Vec<Vec<Point>>, Vec<String>) = labelled(run, duct, drawn).into_iter().map(|(l, t)| (points(&l), t)).unzip();
+    let (lines, texts): (Vec<Vec<Point>>, Vec<String>) = labelled(&frame, run, duct, drawn).into_iter().unzip();
     let placed = placed(&frame, yard, &[], &lines, &texts, 1.6);
 
     if let (Some(run), false) = (drawn, matches!(duct, Duct::Refused(_))) {
-        grid(yard, run).iter().for_each(|line| svg.path("grid", &points(line), false));
+        grid(yard, run).iter().for_each(|line| svg.path("grid", &frame.places(line), false));
     }
     outlines(&frame, yard).iter().for_each(|b| svg.path("block", b, true));
     if let Some(run) = drawn.filter(|r| r.length.is_some()) {
-        svg.path("beside", &points(&run.places), false);
+        svg.path("beside", &frame.line(&run.line), false);
     }
     match (duct, drawn) {
         (Duct::Found(way), _) => draw_way(&mut svg, &frame, way),
-        (Duct::NoWay, Some(run)) => draw_no_way(&mut svg, &points(&run.ends())),
-        (Duct::Refused(_), Some(run)) => draw_ends(&mut svg, &points(&run.ends())),
+        (Duct::NoWay, Some(run)) => draw_no_way(&mut svg, &frame.places(&run.ends)),
+        (Duct::Refused(_), Some(run)) => draw_ends(&mut svg, &frame.places(&run.ends)),
         _ => {}
     }
     set_numbers(&mut svg, yard, &placed.numbers);

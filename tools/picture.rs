@@ -1,12 +1,14 @@
-//! Draws a yard file as an SVG of one A4 page: blocks with their numbers, and runs with their routes and lengths or the
-//! duct of one run with its cost.
+//! Draws a yard file as an SVG of one A4 page: blocks with their numbers, and runs with their routes, bends rounded, and
+//! lengths or the duct of one run with its cost.
 
 mod drawing;
 mod duct_drawing;
 mod labels;
 mod plane;
+mod rounded;
 mod yards;
 
+use rounded::Spot;
 use std::ffi::OsStr;
 use std::path::Path;
 use std::process::ExitCode;
@@ -23,15 +25,10 @@ pub struct Yard {
 
 pub struct Run {
     pub number: usize,
-    /// The places of the route's marks and its length; the two ends alone if there is no way.
-    pub places: Vec<Place>,
+    pub ends: [Place; 2],
+    /// The line that its route is drawn as and the route's length; the straight between its ends if there is no way.
+    pub line: Vec<Spot>,
     pub length: Option<u32>,
-}
-
-impl Run {
-    pub fn ends(&self) -> [Place; 2] {
-        [self.places[0], self.places[self.places.len() - 1]]
-    }
 }
 
 fn drawn(yard: &Replayed) -> Yard {
@@ -40,25 +37,16 @@ fn drawn(yard: &Replayed) -> Yard {
         let count = words[0] as usize;
         words[1..1 + 2 * count].chunks(2).map(|c| (c[0], c[1])).collect()
     };
-    let blocks: Vec<Vec<Place>> = t.blocks.chunks(17).map(corners).collect();
-    let place = |mark: u32| -> Place {
-        let (m, k) = ((mark as usize).saturating_sub(192) / 2, mark as usize % 2);
-        match mark {
-            0..=191 => blocks[mark as usize / 8][mark as usize % 8],
-            _ => (t.runs[5 * m + 1 + 2 * k], t.runs[5 * m + 2 + 2 * k]),
+    let blocks = t.blocks.chunks(17).map(corners).enumerate().filter(|(_, b)| !b.is_empty()).collect();
+    let run = |number: usize| -> Run {
+        let words = &t.runs[5 * number..5 * number + 5];
+        let ends = [(words[1], words[2]), (words[3], words[4])];
+        match t.route(number) {
+            (1, length, _) => Run { number, ends, line: rounded::line(t, number as u32), length: Some(length) },
+            _ => Run { number, ends, line: ends.map(rounded::spot).to_vec(), length: None },
         }
     };
-    let mut runs = vec![];
-    for m in 0..24 {
-        let (state, length, marks) = t.route(m);
-        let ends = [192 + 2 * m as u32, 193 + 2 * m as u32];
-        match state {
-            1 => runs.push(Run { number: m, places: marks.iter().map(|&k| place(k)).collect(), length: Some(length) }),
-            2 => runs.push(Run { number: m, places: ends.map(place).to_vec(), length: None }),
-            _ => {}
-        }
-    }
-    let blocks = blocks.into_iter().enumerate().filter(|(_, b)| !b.is_empty()).collect();
+    let runs = (0..24).filter(|&m| t.route(m).0 != 0).map(run).collect();
     Yard { blocks, runs, edits: yard.edits, refused: yard.refused, stop: yard.stop }
 }
 

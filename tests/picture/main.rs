@@ -1,6 +1,9 @@
 //! Tests of `yardpicture`, run as a process over random yard files: a whole SVG whose every point lies on its page, with
-//! the blocks, runs and lengths of the second planner; and the same bytes for the same file.
+//! the blocks, runs, lengths and rounded lines of the second planner; and the same bytes for the same file.
 
+#[path = "../yard/bends.rs"]
+#[allow(dead_code)]
+mod bends;
 #[path = "../files/files.rs"]
 mod files;
 #[path = "../yard/random.rs"]
@@ -16,6 +19,7 @@ mod svg;
 #[allow(dead_code)]
 mod tables;
 
+use bends::{Piece, Spot};
 use files::{damaged, random_bytes, random_file};
 use random::Random;
 use reference::Book;
@@ -26,6 +30,7 @@ use std::os::unix::ffi::OsStringExt;
 use std::process::{Command, ExitCode};
 use std::time::{Duration, Instant};
 use svg::Element;
+use tables::Tables;
 
 /// What the program draws.
 fn drawn(program: &str, words: &[OsString]) -> Result<String, String> {
@@ -109,8 +114,52 @@ fn endings_right(book: &Book, all: &[Element]) -> Result<(), String> {
     if due == found { Ok(()) } else { Err(format!("ends of runs {found:?}, should be {due:?}")) }
 }
 
-/// The texts that the page must have for the yard that a file leaves.
-fn said(file: &[u8], all: &[Element], duct: bool) -> Result<(), String> {
+/// Millimetres on the page for a centimetre on the ground.
+fn scale(all: &[Element]) -> Result<f64, String> {
+    let text = texts(all, "note").find_map(|t| t.strip_prefix("scale ")?.strip_suffix(" on A4")).ok_or("no scale")?;
+    let (page, ground) = text.split_once(" : ").ok_or(format!("scale '{text}'"))?;
+    Ok(10.0 * number(page)? / number(ground)?)
+}
+
+/// The points that a run's line must go through: its ends and the nine points of each bend between them.
+fn line(book: &Book, drawing: &Tables, run: usize) -> Vec<(f64, f64)> {
+    let end = |k: usize| (book.runs[run][k].0 as f64, book.runs[run][k].1 as f64);
+    let nine = |piece: Piece| match piece {
+        Piece::Bend(bend) => bend.nine(),
+        Piece::Straight(_) => vec![],
+    };
+    let float = |spot: Spot| (spot[0].0 as f64 / spot[0].1 as f64, spot[1].0 as f64 / spot[1].1 as f64);
+    let pieces = match drawing.route(run) {
+        (1, _, marks) => bends::pieces(&bends::places(book, marks)),
+        _ => vec![],
+    };
+    [end(0)].into_iter().chain(pieces.into_iter().flat_map(nine).map(float)).chain([end(1)]).collect()
+}
+
+/// The lines of some runs are the first of their class on the page, point for point, as exactly as two decimals are.
+fn lines_right(book: &Book, drawing: &Tables, runs: &[usize], class: &str, all: &[Element]) -> Result<(), String> {
+    let by = scale(all)?;
+    let lines = all.iter().filter(|e| e.get("class").is_some_and(|c| c.split(' ').next() == Some(class)));
+    let mut origin = None;
+    for (&run, found) in runs.iter().zip(lines) {
+        let (found, due) = (places(found)?, line(book, drawing, run));
+        if found.len() != due.len() {
+            return Err(format!("{} points of run {run}'s line, should be {}", found.len(), due.len()));
+        }
+        for (k, (p, d)) in found.iter().zip(due).enumerate() {
+            // where the yard's place (0, 0) is on the page, by each point
+            let here = (p.0 - by * d.0, p.1 + by * d.1);
+            let first = *origin.get_or_insert(here);
+            if (here.0 - first.0).abs() > 0.0101 || (here.1 - first.1).abs() > 0.0101 {
+                return Err(format!("point {k} of run {run}'s line at {p:?}, off by {:?}", (here.0 - first.0, here.1 - first.1)));
+            }
+        }
+    }
+    Ok(())
+}
+
+/// What the page must show of the yard that a file leaves: its texts and its lines.
+fn said(file: &[u8], all: &[Element], duct: Option<u32>) -> Result<(), String> {
     let (edits, stop) = reader::read(file);
     let mut book = Book::new();
     let refused = edits.iter().filter(|e| book.step(e) != 0).count();
@@ -133,12 +182,14 @@ fn said(file: &[u8], all: &[Element], duct: bool) -> Result<(), String> {
     if class("block") != blocks + 1 || class("number") != blocks {
         return Err(format!("{} outlines and {} numbers of {blocks} blocks", class("block"), class("number")));
     }
-    if duct {
-        return Ok(());
+    if let Some(run) = duct {
+        let beside: Vec<usize> = runs.into_iter().filter(|&m| m as u32 == run && drawing.route(m).0 == 1).collect();
+        return lines_right(&book, &drawing, &beside, "beside", all);
     }
     if class("route") != runs.len() + 2 {
         return Err(format!("{} routes of {} runs", class("route") - 2, runs.len()));
     }
+    lines_right(&book, &drawing, &runs, "route", all)?;
     for m in runs {
         let (state, cm, marks) = drawing.route(m);
         let long = [format!("run {m}: {cm} cm"), format!("run {m}: {}.{:02} m", cm / 100, cm % 100)];
@@ -162,7 +213,7 @@ fn tried(program: &str, file: &[u8], name: OsString, duct: Option<u32>) -> Resul
     let outcome = drawn(program, &words).and_then(|svg| {
         let all = svg::elements(&svg)?;
         on_page(&all)?;
-        said(file, &all, duct.is_some())?;
+        said(file, &all, duct)?;
         if drawn(program, &words)? == svg { Ok(()) } else { Err("another picture of the same file".to_string()) }
     });
     let _ = fs::remove_file(&path);
@@ -204,6 +255,9 @@ fn try_program(program: &str, seconds: u64, seed: u64) -> Result<bool, String> {
     for (k, name) in NAMES.iter().enumerate() {
         let file = &examples[k % examples.len()];
         case(format!("name {k}"), file, tried(program, file, OsString::from_vec(name.to_vec()), None));
+    }
+    for (path, file) in names.iter().zip(&examples) {
+        case(format!("{} with the duct of run 4", path.display()), file, tried(program, file, "duct.yrd".into(), Some(4)));
     }
     println!("tests/picture fuzzing: seed {seed}, {seconds} s");
     let until = Instant::now() + Duration::from_secs(seconds);
