@@ -83,6 +83,36 @@ static void replay(const char *what, const uint8_t *bytes, size_t len) {
     print_route(0);
 }
 
+static void print_points(const char *what, const double *points, size_t len) {
+    printf("%s", what);
+    for (size_t k = 0; k < len; k += 2) printf(" (%g,%g)", points[k], points[k + 1]);
+    printf("\n");
+}
+
+/* How run 0 is drawn: straights by their two points and bends by start, corner and finish, until no piece is left. */
+static void print_pieces(void) {
+    uint32_t kind, piece = 0;
+    double points[YARD_PIECE_POINTS_LEN];
+
+    while (yard_piece(YARD_TABLES(&yard), 0, piece, &kind, YARD_KIND_LEN, points, YARD_PIECE_POINTS_LEN) == YARD_DONE &&
+           kind != YARD_PIECE_NONE) {
+        if (kind == YARD_PIECE_STRAIGHT) print_points("straight", points, 4);
+        if (kind == YARD_PIECE_BEND) print_points("bend", points, 6);
+        piece++;
+    }
+    printf("%" PRIu32 " pieces\n", piece);
+}
+
+/* The nine points of its bend, counted in 4,096ths and so in whole numbers. */
+static void print_bend(void) {
+    uint32_t kind;
+    double points[YARD_BEND_POINTS_LEN];
+
+    answer("bend", yard_bend(YARD_TABLES(&yard), 0, 1, &kind, YARD_KIND_LEN, points, YARD_BEND_POINTS_LEN));
+    for (size_t k = 0; k < LENGTH(points); k++) points[k] *= 4096;
+    print_points("in 4,096ths", points, LENGTH(points));
+}
+
 /* The route of run 0 as a till asks for it, with no pairs and no routes. */
 static void quote_route(void) {
     uint32_t route[YARD_ROUTE_WORDS];
@@ -106,6 +136,8 @@ int main(void) {
     edit_by_calls();
     print_records();
     replay("replay the file", file, sizeof file);
+    print_pieces();
+    print_bend();
     quote_route();
     print_duct();
     replay("replay it with its last byte cut off", file, sizeof file - 1);
