@@ -1,11 +1,12 @@
 //! The benchmark: a drag step of the proved planner beside a plain one of the same algorithm, one that draws
-//! everything from nothing, and Graphviz's, over several yards; and the two quotes.
+//! everything from nothing, and Graphviz's, over several yards; the two quotes; and the two calls that draw.
 
 #[path = "../bindings/abi.rs"]
 #[allow(dead_code)]
 mod abi;
 mod ducts;
 mod graphviz;
+mod pieces;
 #[allow(dead_code)]
 mod plain;
 mod quotes;
@@ -329,6 +330,8 @@ fn main() {
             };
             assert_eq!(answer, 0);
         }
+        // for callgrind: one bend of a yard, by both calls that draw
+        ["pieces", word] => pieces::once(&grid(word).tables()),
         // for callgrind: all routes of the drag yard where every pair's byte says clear, by a move of a run to its own ends
         ["clear", steps] => {
             let mut t = FULL.tables();

@@ -1,7 +1,7 @@
 //! The greatest depth of stack inside each call, against the figures of `include/yard.h` and what it has its user
 //! reserve: the call runs on a stack painted beforehand.
 
-use crate::{abi::*, displacements, ducts, quotes, Grid, Tables, CROWDED};
+use crate::{abi::*, displacements, ducts, pieces, quotes, Grid, Tables, CROWDED};
 use std::arch::asm;
 
 const SIZE: usize = 1 << 20;
@@ -23,6 +23,8 @@ enum Call {
     RemoveRun,
     MoveRun([u16; 4]),
     Check,
+    Piece(u32, u32, [f64; pieces::POINTS]),
+    Bend(u32, u32, [f64; pieces::NINE_POINTS]),
     Replay(Vec<u8>, Vec<u32>, [u64; 2]),
     QuoteRoute(u32, [u32; quotes::ROUTE]),
     QuoteDuct([u32; ducts::QUOTE], Vec<u16>),
@@ -49,6 +51,8 @@ extern "C" fn perform(job: *mut Job) {
             Call::RemoveRun => yard_remove_run(b, bl, r, rl, p, pl, w, wl, NUMBER),
             Call::MoveRun(e) => yard_move_run(b, bl, r, rl, p, pl, w, wl, NUMBER, e[0], e[1], e[2], e[3]),
             Call::Check => yard_check(b, bl, r, rl, p, pl, w, wl),
+            Call::Piece(run, piece, q) => yard_piece(b, bl, r, rl, p, pl, w, wl, *run, *piece, &mut 0, 1, q.as_mut_ptr(), q.len()),
+            Call::Bend(run, piece, q) => yard_bend(b, bl, r, rl, p, pl, w, wl, *run, *piece, &mut 0, 1, q.as_mut_ptr(), q.len()),
             Call::Replay(f, a, e) => {
                 let (a, al, e, el) = (a.as_mut_ptr(), a.len(), e.as_mut_ptr(), e.len());
                 yard_replay(b, bl, r, rl, p, pl, w, wl, f.as_ptr(), f.len(), a, al, e, el)
@@ -118,9 +122,12 @@ fn every_kind() -> Vec<u8> {
     [b"YRD\x01\x00".to_vec(), edits.concat()].concat()
 }
 
-/// What each call that edits or checks is tried with, over the crowded yard; the route's quote and the replay, which no
-/// panel makes, last.
-fn calls() -> [(&'static str, Vec<(Tables, Call)>); 10] {
+/// How many of the calls below a panel makes.
+const PANELS: usize = 10;
+
+/// What each call that edits, checks or draws is tried with, over the crowded yard; the route's quote and the replay, which
+/// no panel makes, last.
+fn calls() -> [(&'static str, Vec<(Tables, Call)>); PANELS + 2] {
     let mut full = CROWDED.tables();
     // a straight whose root is as deep as any
     assert_eq!(full.yard().move_run(0, [0, 2000, 32767, 10]), 0);
@@ -129,6 +136,10 @@ fn calls() -> [(&'static str, Vec<(Tables, Call)>); 10] {
     perform(&mut Job { t: &mut without, call: Call::RemoveRun });
     let move_blocks = displacements(3).into_iter().map(|d| (full.clone(), Call::MoveBlock(d.0, d.1))).collect();
     let move_runs = [[0, 0, 32767, 32767], [7, 9, 7, 9]].map(|ends| (full.clone(), Call::MoveRun(ends))).to_vec();
+    // a straight, a bend, the last piece of a short route, and none
+    let numbers = || (0..24).flat_map(|run| [0, 1, 2, u32::MAX].map(|piece| (run, piece)));
+    let pieces = numbers().map(|(run, piece)| (full.clone(), Call::Piece(run, piece, [0.0; pieces::POINTS]))).collect();
+    let bends = numbers().map(|(run, piece)| (full.clone(), Call::Bend(run, piece, [0.0; pieces::NINE_POINTS]))).collect();
     let quotes = (0..24).map(|run| (full.clone(), Call::QuoteRoute(run, [0; quotes::ROUTE]))).collect();
     let replay = Call::Replay(every_kind(), vec![0; 4096], [0; 2]);
     [
@@ -140,6 +151,8 @@ fn calls() -> [(&'static str, Vec<(Tables, Call)>); 10] {
         ("yard_remove_run", vec![(full.clone(), Call::RemoveRun)]),
         ("yard_move_run", move_runs),
         ("yard_check", vec![(full.clone(), Call::Check)]),
+        ("yard_piece", pieces),
+        ("yard_bend", bends),
         ("yard_quote_route", quotes),
         ("yard_replay", vec![(full, replay)]),
     ]
@@ -165,8 +178,8 @@ pub fn print() {
     println!("greatest depth of stack of a call, bytes, over the crowded yard");
     let depths = calls().map(|(name, calls)| (name, greatest(&calls) - frame));
     depths.iter().for_each(|(name, bytes)| println!("{name:<18} {bytes:>6}"));
-    let most = depths[..8].iter().map(|d| d.1).max().unwrap_or(0);
-    let (route, replay) = (depths[8].1, depths[9].1);
+    let most = depths[..PANELS].iter().map(|d| d.1).max().unwrap_or(0);
+    let (route, replay) = (depths[PANELS].1, depths[PANELS + 1].1);
     let quote = |y: &ducts::Yard| (y.tables(), Call::QuoteDuct([0; ducts::QUOTE], vec![0; ducts::CROSSINGS]));
     let duct = greatest(&ducts::YARDS.iter().map(quote).collect::<Vec<_>>()) - frame;
     println!("{:<18} {duct:>6} over the yards of the duct quote", "yard_quote_duct");

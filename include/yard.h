@@ -11,7 +11,7 @@
  *
  * A call keeps nothing: there is no hidden state, no heap and no I/O. Calls on different tables may run at the same
  * time; calls on the same tables must not, except those that take them const beside each other. A call uses about 4 KiB
- * of stack (3,944 bytes at most where it was measured, on x86-64), yard_quote_route about 4 KiB (4,208 bytes) and
+ * of stack (4,152 bytes at most where it was measured, on x86-64), yard_quote_route about 4 KiB (4,208 bytes) and
  * yard_replay about 6 KiB (6,088 bytes): reserve 8 KiB. Only yard_quote_duct takes more, about 19 KB.
  *
  * East is the first coordinate, north the second, from 0 to 32,767; lengths are in centimetres.
