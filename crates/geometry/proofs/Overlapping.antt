@@ -26,12 +26,12 @@ unfolding along
 along-from u t a b c f g = simp diff (⊖-le _ _ _ _ (omega (arith, mul-le-mul-left u f, mul-le-mul-left t g)))
 
 -- ---- the corners as vectors from a point (e, m), all multiplied by n
-from-point : (pe pn qe qn e m : ℤ) → (qe -ℤ pe) *ℤ (m -ℤ pn) -ℤ (qn -ℤ pn) *ℤ (e -ℤ pe) ≡ (pe -ℤ e) *ℤ (qn -ℤ m) -ℤ (pn -ℤ m) *ℤ (qe -ℤ e)
+pub from-point : (pe pn qe qn e m : ℤ) → (qe -ℤ pe) *ℤ (m -ℤ pn) -ℤ (qn -ℤ pn) *ℤ (e -ℤ pe) ≡ (pe -ℤ e) *ℤ (qn -ℤ m) -ℤ (pn -ℤ m) *ℤ (qe -ℤ e)
 from-point =
     undiff _ (λ a a′. undiff _ (λ b b′. undiff _ (λ c c′. undiff _ (λ d d′. undiff _ (λ e e′. undiff _ (λ f f′.
     simp diff (⊖-eq _ _ _ _ (omega arith))))))))
 
-multiplied : (n pe pn qe qn x y : ℤ) → n *ℤ ((qe -ℤ pe) *ℤ x -ℤ (qn -ℤ pn) *ℤ y) ≡ (n *ℤ qe -ℤ n *ℤ pe) *ℤ x -ℤ (n *ℤ qn -ℤ n *ℤ pn) *ℤ y
+pub multiplied : (n pe pn qe qn x y : ℤ) → n *ℤ ((qe -ℤ pe) *ℤ x -ℤ (qn -ℤ pn) *ℤ y) ≡ (n *ℤ qe -ℤ n *ℤ pe) *ℤ x -ℤ (n *ℤ qn -ℤ n *ℤ pn) *ℤ y
 multiplied n pe pn qe qn x y = simp ring
 
 gap-lt : (x y : ℤ) → pos 0 <ℤ (x -ℤ y) → y <ℤ x
@@ -43,7 +43,7 @@ gap-le = undiff _ (λ a a′. undiff _ (λ b b′. simp diff (λ h. ⊖-le _ _ _
 neg-gap-le : (x y : ℤ) → x ≤ℤ y → pos 0 ≤ℤ negℤ (x -ℤ y)
 neg-gap-le = undiff _ (λ a a′. undiff _ (λ b b′. simp diff (λ h. ⊖-le _ _ _ _ (omega (arith, le-⊖ _ _ _ _ h)))))
 
-times-pos : (n : ℕ) (z : ℤ) → 1 ≤ n → pos 0 <ℤ z → pos 0 <ℤ (pos n *ℤ z)
+pub times-pos : (n : ℕ) (z : ℤ) → 1 ≤ n → pos 0 <ℤ z → pos 0 <ℤ (pos n *ℤ z)
 times-pos zero z h = absurd (omega arith)
 times-pos (suc n) z h = positive (λ z. pos 0 <ℤ (pos (suc n) *ℤ z)) (λ a. simp diff (⊖-lt _ _ _ _ (omega arith))) z
 

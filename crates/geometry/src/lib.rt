@@ -185,7 +185,7 @@ fn lesser(a: u16, b: u16) -> u16
     if a < b { a } else { b }
 }
 
-fn greater(a: u16, b: u16) -> u16
+pub fn greater(a: u16, b: u16) -> u16
     ensures { λ r. ⌜ r ≡ max a b ⌝ }
 {
     if a < b { b } else { a }
