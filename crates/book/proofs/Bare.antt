@@ -14,7 +14,7 @@ use Rattle.paths.specs.Path.{Chain, last, more, total}
 use Rattle.tables.specs.Tables.{Tables, records, routeWords, isCorner, isEnd, present, placeOf, pairIndex}
 use Rattle.tables.specs.Written.{blockRecord, runRecord, placeWords}
 use Rattle.tables.proofs.Splices.{block-first, run-first, run-word}
-use Rattle.visibility.specs.Visibility.{ByPlaces, ClearBetween, PairIs, absent, clear, hidden, bothPresent}
+use Rattle.visibility.specs.Visibility.{ByPlaces, ClearBetween, PairIs, absent, clear, seam, hidden, bothPresent}
 use Rattle.search.specs.Network.{cost, graph}
 use Rattle.routing.specs.Routes.{RouteIs, noRun, found, noWay}
 use Rattle.book.specs.Book.{Book, emptyBook, withRun}
@@ -53,6 +53,7 @@ module _ (b : Book) (T : Tables) (d : Drawn b T) where
       go : {y : ℕ} → PairIs (records T) 194 195 y → y ≡ 255
       go (absent e o) = o
       go (clear e c o) = absurd (true≢false (sym e ∙ gone))
+      go (seam e c o) = absurd (true≢false (sym e ∙ gone))
       go (hidden e l h n) = absurd (true≢false (sym e ∙ gone))
 
   module _ (bare : (n : ℕ) → getD (b .blocks) n [] ≡ []) where
@@ -69,7 +70,7 @@ module _ (b : Book) (T : Tables) (d : Drawn b T) where
         omega (arith, block-first (T .blocks) (u / 8), no-block (u / 8) (omega arith))
 
     all-clear : (i j : ℕ) → ClearBetween (records T) i j
-    all-clear i j = record { seen = λ n l h. omega (arith, h .stands, no-block n l) }
+    all-clear i j = record { seen = λ n l h. omega (arith, h .stands, no-block n l); unshared = λ h. omega (arith, h .first .stands, no-block (h .p) (h .first .number)) }
 
     -- and where it is
     pub second-clear : word (runRecord (getD (b .runs) 1 [])) 0 ≡ 1 → word (T .pairs) (pairIndex 194 195) ≡ 254
@@ -82,6 +83,7 @@ module _ (b : Book) (T : Tables) (d : Drawn b T) where
         go : {y : ℕ} → PairIs (records T) 194 195 y → y ≡ 254
         go (absent e q) = absurd (true≢false (sym ends ∙ e))
         go (clear e c q) = q
+        go (seam e c q) = absurd (all-clear 194 195 .unshared (c .shared))
         go (hidden e l h n) = absurd (all-clear 194 195 .seen _ l h)
 
 -- run 0 alone: its route is the straight between its ends

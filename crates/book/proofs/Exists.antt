@@ -1,8 +1,7 @@
 -- Every sound book has a drawing; by `drawn-unique` it has just one.
-use mathlib.Core.Path.{_≡_, refl, sym, _∙_}
+use mathlib.Core.Path.{_≡_, refl}
 use mathlib.Core.Logic.{_⊎_, inl, inr}
 use mathlib.Core.List.{List, []}
-use mathlib.Core.Bool.{true≢false}
 use Prim.Native.Nat.{ℕ, _*_, _<_}
 use lib.ListN.{getD}
 use Rattle.geometry.specs.Words.{Point, word}
@@ -10,23 +9,14 @@ use Rattle.tables.specs.Tables.{Records, Tables, stored, tables}
 use Rattle.tables.specs.Written.{blockRecord, runRecord}
 use Rattle.tables.proofs.Splices.{blockRecord-length, run-first}
 use Rattle.tables.proofs.Joined.{RecordTable, records-exist, PairTable, pairs-exist}
-use Rattle.visibility.specs.Visibility.{ByPlaces, PairIs, absent, clear, hidden}
-use Rattle.visibility.proofs.Exists.{pair-exists}
+use Rattle.visibility.specs.Visibility.{ByPlaces, PairIs}
+use Rattle.visibility.proofs.Exists.{pair-exists, places-dec}
 use Rattle.routing.specs.Routes.{RouteIs}
 use Rattle.routing.proofs.Fits.{route-exists}
 use Rattle.book.specs.Book.{Book, Edit, emptyBook, afterAll}
 use Rattle.book.specs.Drawing.{Drawn}
 use Rattle.records.proofs.Places.{RunPlace, unused, two, block-small, run-full}
 use Rattle.book.proofs.Sound.{Sound, empty-sound, all-sound}
-
--- a pair's byte says whether its straight is clear
-places-dec : (R : Records) (v u : ℕ) → Dec (ByPlaces R v u)
-places-dec R v u = go (pair-exists R v u .0) (pair-exists R v u .1)
-  where
-    go : (b : ℕ) → PairIs R v u b → Dec (ByPlaces R v u)
-    go b (absent e o) = no (λ h. true≢false (sym (h .0) ∙ e))
-    go b (clear e c o) = yes (e, c)
-    go b (hidden e l h m) = no (λ c. c .1 .seen b l h)
 
 -- a run's record begins with 0 or 1
 pub run-flag : (ps : List Point) → RunPlace ps → (word (runRecord ps) 0 ≡ 0) ⊎ (word (runRecord ps) 0 ≡ 1)

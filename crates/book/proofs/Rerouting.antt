@@ -7,8 +7,8 @@ use native.Mathlib.Omega.{arith}
 use native.Mathlib.Decide.{decLt}
 use borrow.Author.Tests.{lt-ltb, le-ltb}
 use Rattle.tables.specs.Tables.{Records, pairByte, present}
-use Rattle.geometry.proofs.Obstructing.{hidden-sym}
-use Rattle.visibility.specs.Visibility.{ByPlaces, PairIs, absent, clear, hidden, PairsRight}
+use Rattle.visibility.specs.Visibility.{ByPlaces, PairIs, absent, clear, seam, hidden, PairsRight}
+use Rattle.visibility.proofs.Straights.{clear-sym}
 use Rattle.search.specs.Network.{ByBytes}
 use Rattle.routing.specs.Routes.{RouteIs}
 use Rattle.routing.proofs.Maps.{route-as}
@@ -17,15 +17,17 @@ module _ (R : Records) (pairs : List ℕ) (right : PairsRight R pairs) where
   clear-of : (i j b : ℕ) → PairIs R i j b → b ≡ 254 → ByPlaces R i j
   clear-of i j b (absent e o) q = absurd (omega arith)
   clear-of i j b (clear e c o) q = (e, c)
+  clear-of i j b (seam e c o) q = absurd (omega arith)
   clear-of i j b (hidden e l h m) q = absurd (omega arith)
 
   byte-of : (i j b : ℕ) → PairIs R i j b → ByPlaces R i j → b ≡ 254
   byte-of i j b (absent e o) q = absurd (true≢false (sym (q .0) ∙ e))
   byte-of i j b (clear e c o) q = o
+  byte-of i j b (seam e c o) q = absurd (q .1 .unshared (c .shared))
   byte-of i j b (hidden e l h m) q = absurd (q .1 .seen b l h)
 
   swap : (i j : ℕ) → ByPlaces R i j → ByPlaces R j i
-  swap i j c = (and-comm (present R j) (present R i) ∙ c .0, record { seen = λ k l h. c .1 .seen k l (hidden-sym _ _ _ _ h) })
+  swap i j c = (and-comm (present R j) (present R i) ∙ c .0, clear-sym (c .1))
 
   by-places : (v u : ℕ) → v < 240 → u < 240 → (v ≡ u → ⊥) → ByBytes pairs v u → ByPlaces R v u
   unfolding pairByte

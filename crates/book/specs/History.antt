@@ -17,7 +17,7 @@ pub data Calls : List Edit → Tables → List ℕ → Tables → Type 0 where
   call : {e : Edit} {es : List Edit} {T T₁ T₂ : Tables} {r : ℕ} {rs : List ℕ} → Called e T r T₁ → Calls es T₁ rs T₂ → Calls (e ∷ es) T (r ∷ rs) T₂
 
 -- the entries that an accepted edit may rewrite: those that end on its record; of a block's edit also those whose byte was its number,
--- and those above it between present marks that the block as it now stands hides
+-- 253 or 254, and those above it between present marks that the block as it now stands hides
 abbrev pub MayRewrite : Target → Tables → Tables → ℕ → ℕ → Type 0
 MayRewrite (theBlock n) T T′ i j =
     Afresh n i j (word (T .pairs) (pairIndex i j))

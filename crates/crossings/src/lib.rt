@@ -4,11 +4,13 @@ ghost use Prim.Native.Nat.{_+_, _<_, _≤_};
 ghost use lib.ListN.{length};
 ghost use Rattle.geometry.specs.Words.{pointOf};
 ghost use Rattle.geometry.specs.inner.Bounds.{Bounded};
+ghost use Rattle.seams.specs.inner.Near.{Near};
 ghost use Rattle.crossings.specs.Grid.{Stepping, crossingAt};
 ghost use Rattle.crossings.specs.inner.Charts.{ruled, Ruled, spot, span, Told, Charted, westOf, southOf, northOf, eastOf, stepOf};
 use geometry::Place;
 use lengths::apart;
 use lines::index_of;
+use neighbours::mark_near;
 use visibility::is_clear;
 
 // The place of crossing v.
@@ -31,8 +33,16 @@ pub fn crossing_at(xs: &[u16], nx: usize, ys: &[u16], ny: usize, p: Place) -> us
 }
 
 // 1 where the step north from v is clear, else 0.
-fn north_bit(blocks: &[u16], xs: &[u16], nx: usize, ys: &[u16], ny: usize, v: usize) -> u8
-    requires { ⌜ (Bounded (now blocks)) × (Ruled (now xs) nx (now ys) ny) × (v < 4356) ⌝ }
+fn north_bit(
+    blocks: &[u16],
+    near: &[u8],
+    xs: &[u16],
+    nx: usize,
+    ys: &[u16],
+    ny: usize,
+    v: usize,
+) -> u8
+    requires { ⌜ (Bounded (now blocks)) × (Near (now blocks) (now near)) × (Ruled (now xs) nx (now ys) ny) × (v < 4356) ⌝ }
     ensures { λ r. ⌜ Told (Stepping (now (blocks .entry)) (ruled (now (xs .entry)) nx (now (ys .entry)) ny) v (v + 1)) r ⌝ }
 {
     if nx <= v / 66 {
@@ -41,15 +51,23 @@ fn north_bit(blocks: &[u16], xs: &[u16], nx: usize, ys: &[u16], ny: usize, v: us
     if ny <= v % 66 + 1 {
         return 0;
     }
-    if is_clear(blocks, spot(xs, ys, v), spot(xs, ys, v + 1)) {
+    if is_clear(blocks, near, spot(xs, ys, v), spot(xs, ys, v + 1)) {
         return 1;
     }
     0
 }
 
 // 1 where the step east from v is clear, else 0.
-fn east_bit(blocks: &[u16], xs: &[u16], nx: usize, ys: &[u16], ny: usize, v: usize) -> u8
-    requires { ⌜ (Bounded (now blocks)) × (Ruled (now xs) nx (now ys) ny) × (v < 4356) ⌝ }
+fn east_bit(
+    blocks: &[u16],
+    near: &[u8],
+    xs: &[u16],
+    nx: usize,
+    ys: &[u16],
+    ny: usize,
+    v: usize,
+) -> u8
+    requires { ⌜ (Bounded (now blocks)) × (Near (now blocks) (now near)) × (Ruled (now xs) nx (now ys) ny) × (v < 4356) ⌝ }
     ensures { λ r. ⌜ Told (Stepping (now (blocks .entry)) (ruled (now (xs .entry)) nx (now (ys .entry)) ny) v (v + 66)) r ⌝ }
 {
     if nx <= v / 66 + 1 {
@@ -58,7 +76,7 @@ fn east_bit(blocks: &[u16], xs: &[u16], nx: usize, ys: &[u16], ny: usize, v: usi
     if ny <= v % 66 {
         return 0;
     }
-    if is_clear(blocks, spot(xs, ys, v), spot(xs, ys, v + 66)) {
+    if is_clear(blocks, near, spot(xs, ys, v), spot(xs, ys, v + 66)) {
         return 1;
     }
     0
@@ -69,10 +87,12 @@ pub fn chart(blocks: &[u16], xs: &[u16], nx: usize, ys: &[u16], ny: usize, steps
     requires { ⌜ (Bounded (now blocks)) × (Ruled (now xs) nx (now ys) ny) × (length (now steps) ≡ 4356) ⌝ }
     ensures { λ r. ⌜ Charted (now (blocks .entry)) (ruled (now (xs .entry)) nx (now (ys .entry)) ny) (now (steps .exit)) 4356 ⌝ }
 {
+    let mut near = [0u8; 24];
+    mark_near(blocks, &mut near);
     let mut v = 0;
     while v < 4356 {
-        let north = north_bit(blocks, xs, nx, ys, ny, v);
-        let east = east_bit(blocks, xs, nx, ys, ny, v);
+        let north = north_bit(blocks, &near, xs, nx, ys, ny, v);
+        let east = east_bit(blocks, &near, xs, nx, ys, ny, v);
         steps[v] = north + 2 * east;
         v += 1;
     }

@@ -1,14 +1,15 @@
 -- The yard with square S as block 0 and one run, as words, and what S hides there.
 use mathlib.Core.Path.{_≡_, sym, ap, _∙_, subst}
 use mathlib.Core.List.{List, [], _∷_}
-use Prim.Native.Nat.{ℕ, _+_, _*_, _-_, _≤_}
+use Prim.Native.Nat.{ℕ, _+_, _*_, _-_, _<_, _≤_}
 use native.Mathlib.Decide.{decLt}
 use native.Mathlib.Omega.{arith}
 use lib.Dec.{lit<}
 use lib.ListN.{replicate}
 use lib.Seq.{getD-drop}
-use Rattle.geometry.specs.Words.{Point, point, word, placesFrom}
+use Rattle.geometry.specs.Words.{Point, point, word, blockWords, placesFrom}
 use Rattle.geometry.specs.Obstruction.{Obstructs, Hidden}
+use Rattle.seams.specs.Seam.{Shared}
 use Rattle.tables.specs.Tables.{Records, stored}
 use Rattle.tables.proofs.Splices.{word-zeros, block-first}
 use Rattle.trials.proofs.Sight.{obstructed, seen-hidden, seen-clear}
@@ -52,9 +53,16 @@ module _ (a b : Point) where
     | no l ↦ let e : n ≡ 0 = omega arith in of-first (subst (λ (k : ℕ). Hidden blocksS k a b) e h)
   ]
 
+-- one block makes no seam
+alone : (a b : Point) → Shared blocksS a b → ⊥
+alone a b h = h .different (omega (arith, first (h .p) (h .first .stands), first (h .q) (h .second .stands)))
+  where
+    first : (n : ℕ) → 0 < word (blockWords blocksS n) 0 → n ≡ 0
+    first n o = elim (decLt 0 n) [ yes l ↦ absurd (omega (arith, block-first blocksS n, no-other n l)) | no l ↦ omega arith ]
+
 pub square-judged : Judges blocksS (obstructed S)
 square-judged =
     record {
       hides = λ a b e c. c .seen 0 (lit< tt) (by-S a b (seen-hidden S a b e));
-      clears = λ a b e. record { seen = λ n l h. seen-clear S a b e (only-S a b n h) };
+      clears = λ a b e. record { seen = λ n l h. seen-clear S a b e (only-S a b n h); unshared = alone a b };
     }

@@ -6,7 +6,7 @@ use Prim.Native.Nat.{ℕ, zero, suc, _+_, _*_, _-_, _/_, _%_, _≤_, _<_}
 use native.Mathlib.Omega.{arith}
 use lib.ListN.{length, replicate}
 use borrow.Author.Tests.{lt-ltb}
-use Rattle.geometry.specs.Words.{Point, word}
+use Rattle.geometry.specs.Words.{Point, word, blockWords}
 use Rattle.geometry.specs.Obstruction.{turn, sideTurn}
 use Rattle.tables.specs.Tables.{Records, stored, isCorner, placeOf}
 use Rattle.tables.proofs.Splices.{word-zeros, block-first}
@@ -33,7 +33,10 @@ nothing a b = false
 
 pub bare-judged : Judges noBlocks nothing
 unfolding noBlocks
-bare-judged = record { hides = λ a b e. absurd (true≢false (sym e)); clears = λ a b e. record { seen = λ n l h. omega (arith, h .stands, block-first noBlocks n, word-zeros 408 (17 * n)) } }
+bare-judged = record { hides = λ a b e. absurd (true≢false (sym e)); clears = λ a b e. record { seen = λ n l h. gone n (h .stands); unshared = λ h. gone (h .p) (h .first .stands) } }
+  where
+    gone : (n : ℕ) → 0 < word (blockWords noBlocks n) 0 → ⊥
+    gone n h = omega (arith, block-first noBlocks n, word-zeros 408 (17 * n))
 
 -- the path of run 0 is its first end and then the crossings us: the labels show that it is the best
 unfoldable pub shows : Records → (Point → Point → Bool) → List ℕ → List ℕ → Bool

@@ -5,6 +5,7 @@ ghost use lib.ListN.{length};
 ghost use Rattle.lists.specs.inner.Filled.{filled};
 ghost use Rattle.lists.specs.inner.Tells.{Tells};
 ghost use Rattle.geometry.specs.Words.{pointOf};
+ghost use Rattle.seams.specs.inner.Near.{Near};
 ghost use Rattle.tables.specs.Tables.{stored, placeOf, firstEnd, secondEnd};
 ghost use Rattle.visibility.specs.Visibility.{ByPlaces};
 ghost use Rattle.search.specs.inner.Keys.{Keyed};
@@ -14,6 +15,7 @@ ghost use Rattle.sight.specs.inner.Sight.{Sound};
 ghost use Rattle.lazy_search.specs.inner.Lazy.{straights};
 ghost use Rattle.lazy_routes.specs.inner.Corners.{CornersListed};
 use geometry::Place;
+use neighbours::mark_near;
 use tables::place_of;
 
 // Lists the corners of the present blocks, lowest first, and answers how many there are.
@@ -37,6 +39,7 @@ fn list_corners(blocks: &[u16], order: &mut [u16]) -> usize
 fn tight(
     blocks: &[u16],
     runs: &[u16],
+    near: &[u8],
     last: &mut [u8],
     v: usize,
     a: Place,
@@ -44,7 +47,7 @@ fn tight(
     kv: u32,
     ku: u32,
 ) -> bool
-    requires { ⌜ (Sound (stored (now blocks) (now runs))) × (length (now last) ≡ 240) × (pointOf a ≡ placeOf (stored (now blocks) (now runs)) v) ⌝ }
+    requires { ⌜ (Sound (stored (now blocks) (now runs))) × (Near (now blocks) (now near)) × (length (now last) ≡ 240) × (pointOf a ≡ placeOf (stored (now blocks) (now runs)) v) ⌝ }
     requires { ⌜ (v < 240) × (u < 240) × (v ≡ u → kv ≡ ku) ⌝ }
     ensures tells { λ r. ⌜ Tells (TightKey (straights (stored (now (blocks .entry)) (now (runs .entry)))) v u kv ku) r ⌝ }
     ensures sized { λ r. ⌜ length (now (last .exit)) ≡ 240 ⌝ }
@@ -65,19 +68,20 @@ fn tight(
     if lengths::root_up(square) != length {
         return false;
     }
-    sight::sees(blocks, runs, last, v, a, u, b)
+    sight::sees(blocks, runs, near, last, v, a, u, b)
 }
 
 // The lowest mark after v by the keys.
 fn next_hop(
     blocks: &[u16],
     runs: &[u16],
+    near: &[u8],
     last: &mut [u8],
     key: &[u32],
     v: usize,
     second: usize,
 ) -> usize
-    requires { ⌜ (Sound (stored (now blocks) (now runs))) × (length (now last) ≡ 240) ⌝ }
+    requires { ⌜ (Sound (stored (now blocks) (now runs))) × (Near (now blocks) (now near)) × (length (now last) ≡ 240) ⌝ }
     requires { ⌜ (v < 240) × (192 ≤ second) × (length (now key) ≡ 240) ⌝ }
     ensures hop { λ r. ⌜ Hop (straights (stored (now (blocks .entry)) (now (runs .entry)))) second (now (key .entry)) v r ⌝ }
     ensures sized { λ r. ⌜ length (now (last .exit)) ≡ 240 ⌝ }
@@ -87,7 +91,7 @@ fn next_hop(
     let mut u = 0;
     while u < 192 {
         let ku = key[u];
-        if tight(blocks, runs, last, v, a, u, kv, ku) {
+        if tight(blocks, runs, near, last, v, a, u, kv, ku) {
             return u;
         }
         u += 1;
@@ -96,8 +100,8 @@ fn next_hop(
 }
 
 // Writes the marks of run m's route into its cleared record, and answers how many there are.
-fn walk(blocks: &[u16], runs: &[u16], m: usize, key: &[u32], part: &mut [u32]) -> usize
-    requires { ⌜ Sound (stored (now blocks) (now runs)) ⌝ }
+fn walk(blocks: &[u16], runs: &[u16], near: &[u8], m: usize, key: &[u32], part: &mut [u32]) -> usize
+    requires { ⌜ (Sound (stored (now blocks) (now runs))) × (Near (now blocks) (now near)) ⌝ }
     requires { ⌜ (m < 24) × (Keyed (straights (stored (now blocks) (now runs))) (firstEnd m) (secondEnd m) (now key)) × (now part ≡ filled 197 0) ⌝ }
     ensures { λ r. ⌜ Walked (straights (stored (now (blocks .entry)) (now (runs .entry)))) (firstEnd m) (secondEnd m) (now (key .entry)) (now (part .exit)) r ⌝ }
 {
@@ -107,7 +111,7 @@ fn walk(blocks: &[u16], runs: &[u16], m: usize, key: &[u32], part: &mut [u32]) -
     let mut n = 1;
     part[3] = v as u32;
     loop {
-        let u = next_hop(blocks, runs, &mut last, key, v, second);
+        let u = next_hop(blocks, runs, near, &mut last, key, v, second);
         part[n + 3] = u as u32;
         n += 1;
         if u == second {
@@ -130,9 +134,11 @@ pub fn route(blocks: &[u16], runs: &[u16], m: usize, part: &mut [u32])
     let n = list_corners(blocks, &mut order);
     order[n] = (192 + 2 * m) as u16;
     order[n + 1] = (193 + 2 * m) as u16;
+    let mut near = [0u8; 24];
+    mark_near(blocks, &mut near);
     let mut key = [4000000000u32; 240];
-    if lazy_search::settle(blocks, runs, &mut order, n, m, &mut key) {
-        let count = walk(blocks, runs, m, &key, part);
+    if lazy_search::settle(blocks, runs, &near, &mut order, n, m, &mut key) {
+        let count = walk(blocks, runs, &near, m, &key, part);
         part[0] = 1;
         part[1] = key[192 + 2 * m] / 256;
         part[2] = count as u32;

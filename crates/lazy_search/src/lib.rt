@@ -5,6 +5,7 @@ ghost use mathlib.Core.Path.{_≡_};
 ghost use Prim.Native.Nat.{_+_, _*_, _-_, _<_};
 ghost use lib.ListN.{length};
 ghost use Rattle.geometry.specs.Words.{pointOf};
+ghost use Rattle.seams.specs.inner.Near.{Near};
 ghost use Rattle.tables.specs.Tables.{stored, placeOf, firstEnd, secondEnd};
 ghost use Rattle.tables.specs.inner.Fit.{Fit};
 ghost use Rattle.search.specs.inner.Keys.{unreached, Filled, Listed, Relaxable, Improved, Searched};
@@ -52,6 +53,7 @@ fn prepare(
 fn improved(
     blocks: &[u16],
     runs: &[u16],
+    near: &[u8],
     last: &mut [u8],
     v: usize,
     a: Place,
@@ -60,7 +62,7 @@ fn improved(
     ks: u32,
     old: u32,
 ) -> u32
-    requires { ⌜ (Sound (stored (now blocks) (now runs))) × (length (now last) ≡ 240) × (pointOf a ≡ placeOf (stored (now blocks) (now runs)) v) ⌝ }
+    requires { ⌜ (Sound (stored (now blocks) (now runs))) × (Near (now blocks) (now near)) × (length (now last) ≡ 240) × (pointOf a ≡ placeOf (stored (now blocks) (now runs)) v) ⌝ }
     requires { ⌜ Relaxable (stored (now blocks) (now runs)) v s (pointOf b) ks old ⌝ }
     ensures key { λ r. ⌜ Improved (straights (stored (now (blocks .entry)) (now (runs .entry)))) v s ks old r ⌝ }
     ensures sized { λ r. ⌜ length (now (last .exit)) ≡ 240 ⌝ }
@@ -73,7 +75,7 @@ fn improved(
     if most * most < square {
         return old;
     }
-    if !sight::sees(blocks, runs, last, v, a, s, b) {
+    if !sight::sees(blocks, runs, near, last, v, a, s, b) {
         return old;
     }
     256 * lengths::root_up(square) as u32 + 1 + ks
@@ -83,6 +85,7 @@ fn improved(
 fn tried_key(
     blocks: &[u16],
     runs: &[u16],
+    near: &[u8],
     last: &mut [u8],
     order: &[u16],
     lo: usize,
@@ -90,7 +93,7 @@ fn tried_key(
     key: &[u32],
     v: usize,
 ) -> u32
-    requires { ⌜ (Sound (stored (now blocks) (now runs))) × (length (now last) ≡ 240) ⌝ }
+    requires { ⌜ (Sound (stored (now blocks) (now runs))) × (Near (now blocks) (now near)) × (length (now last) ≡ 240) ⌝ }
     requires { ⌜ Testable (now order) lo hi (now key) v ⌝ }
     ensures key { λ r. ⌜ Exact (straights (stored (now (blocks .entry)) (now (runs .entry)))) (Among (now (order .entry)) lo hi) (now (key .entry)) v r ⌝ }
     ensures sized { λ r. ⌜ length (now (last .exit)) ≡ 240 ⌝ }
@@ -103,7 +106,7 @@ fn tried_key(
         let s = order[i] as usize;
         let b = place_of(blocks, runs, s);
         let ks = key[s];
-        best = improved(blocks, runs, last, v, a, s, b, ks, best);
+        best = improved(blocks, runs, near, last, v, a, s, b, ks, best);
     }
     best
 }
@@ -112,6 +115,7 @@ fn tried_key(
 fn ease(
     blocks: &[u16],
     runs: &[u16],
+    near: &[u8],
     last: &mut [u8],
     order: &[u16],
     lo: usize,
@@ -120,7 +124,7 @@ fn ease(
     s: usize,
     ks: u32,
 )
-    requires { ⌜ (Sound (stored (now blocks) (now runs))) × (length (now last) ≡ 240) ⌝ }
+    requires { ⌜ (Sound (stored (now blocks) (now runs))) × (Near (now blocks) (now near)) × (length (now last) ≡ 240) ⌝ }
     requires { ⌜ Easing (now order) lo hi (now key) s ks ⌝ }
     ensures keys { λ r. ⌜ Eased (straights (stored (now (blocks .entry)) (now (runs .entry)))) (Among (now (order .entry)) lo hi) (now (key .entry)) (now (key .exit)) s ks ⌝ }
     ensures sized { λ r. ⌜ length (now (last .exit)) ≡ 240 ⌝ }
@@ -131,22 +135,23 @@ fn ease(
         let v = order[j] as usize;
         let a = place_of(blocks, runs, v);
         let old = key[v];
-        key[v] = improved(blocks, runs, last, v, a, s, b, ks, old);
+        key[v] = improved(blocks, runs, near, last, v, a, s, b, ks, old);
         j += 1;
     }
 }
 
 // Finds the keys for run m, of which none is reached at first; answers whether there is a way. The list has the n bending places and the
-// two ends; it is kept in three parts: the marks hoped for, a heap, then those tried, then from `waiting` on those settled, the latest first.
+// two ends; it is kept in three parts: the marks hoped for, a heap, then those tried, then from `due` on those settled, the latest first.
 pub fn settle(
     blocks: &[u16],
     runs: &[u16],
+    near: &[u8],
     order: &mut [u16],
     n: usize,
     m: usize,
     key: &mut [u32],
 ) -> bool
-    requires { ⌜ (Sound (stored (now blocks) (now runs))) × (m < 24) × (Listing (now order) n m) × (Filled (now key) 240 unreached) ⌝ }
+    requires { ⌜ (Sound (stored (now blocks) (now runs))) × (Near (now blocks) (now near)) × (m < 24) × (Listing (now order) n m) × (Filled (now key) 240 unreached) ⌝ }
     ensures { λ r. ⌜ Searched (network (stored (now (blocks .entry)) (now (runs .entry))) (now (order .entry)) n) (firstEnd m) (secondEnd m) (now (key .exit)) r ⌝ }
 {
     let first = 192 + 2 * m;
@@ -155,28 +160,28 @@ pub fn settle(
     prepare(blocks, runs, order, n, m, &mut bounds, key);
     let mut last = [255u8; 240];
     let mut hoped = n + 1;
-    let mut waiting = n + 1;
+    let mut due = n + 1;
     heaps::heapify(&bounds, key, order, hoped);
     loop {
-        let next = heaps::least(&bounds, key, order, hoped, waiting);
-        if heaps::sooner(&bounds, key, order, 0, hoped, next, waiting) {
+        let next = heaps::least(&bounds, key, order, hoped, due);
+        if heaps::sooner(&bounds, key, order, 0, hoped, next, due) {
             hoped -= 1;
             let v = order[0] as usize;
             heaps::swap(order, 0, hoped);
-            key[v] = tried_key(blocks, runs, &mut last, order, waiting, count, key, v);
+            key[v] = tried_key(blocks, runs, near, &mut last, order, due, count, key, v);
             heaps::sift(&bounds, key, order, 0, hoped);
             continue;
         }
-        if waiting <= next {
+        if due <= next {
             return false;
         }
         let s = order[next] as usize;
         if s == first {
             return true;
         }
-        waiting -= 1;
-        heaps::swap(order, next, waiting);
+        due -= 1;
+        heaps::swap(order, next, due);
         let ks = key[s];
-        ease(blocks, runs, &mut last, order, hoped, waiting, key, s, ks);
+        ease(blocks, runs, near, &mut last, order, hoped, due, key, s, ks);
     }
 }

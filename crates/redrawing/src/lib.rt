@@ -3,10 +3,12 @@ ghost use mathlib.Core.Path.{_≡_};
 ghost use Prim.Native.Nat.{_+_, _*_, _<_};
 ghost use lib.ListN.{length};
 ghost use Rattle.lists.specs.inner.Tells.{Tells};
+ghost use Rattle.seams.specs.inner.Near.{Near};
 ghost use Rattle.tables.specs.Tables.{stored};
 ghost use Rattle.tables.specs.inner.Fit.{Fit};
 ghost use Rattle.visibility.specs.Visibility.{PairsRight, BlockRedrawn, RunRedrawn};
 ghost use Rattle.redrawing.specs.inner.Rows.{RowRedrawn, InRow, InColumn, Renewed, RowRight};
+use neighbours::mark_near;
 use tables::is_present;
 use tables::pair_index;
 use tables::place_of;
@@ -14,8 +16,8 @@ use visibility::block_byte;
 use visibility::fresh_byte;
 
 // The bytes of mark j with the marks below it, after an edit of block n.
-fn redraw_row(blocks: &[u16], runs: &[u16], row: &mut [u8], j: usize, n: usize)
-    requires { ⌜ (Fit (stored (now blocks) (now runs))) × (length (now row) ≡ j) × (j < 240) × (n < 24) ⌝ }
+fn redraw_row(blocks: &[u16], runs: &[u16], near: &[u8], row: &mut [u8], j: usize, n: usize)
+    requires { ⌜ (Fit (stored (now blocks) (now runs))) × (Near (now blocks) (now near)) × (length (now row) ≡ j) × (j < 240) × (n < 24) ⌝ }
     ensures { λ r. ⌜ RowRedrawn (stored (now (blocks .entry)) (now (runs .entry))) n j (now (row .entry)) (now (row .exit)) ⌝ }
 {
     let there = is_present(blocks, runs, j);
@@ -23,7 +25,7 @@ fn redraw_row(blocks: &[u16], runs: &[u16], row: &mut [u8], j: usize, n: usize)
     let mut i = 0;
     while i < j {
         let old = row[i];
-        let new = block_byte(blocks, runs, n, i, j, there, b, old);
+        let new = block_byte(blocks, runs, near, n, i, j, there, b, old);
         row[i] = new;
         i += 1;
     }
@@ -34,37 +36,39 @@ pub fn redraw_block(blocks: &[u16], runs: &[u16], pairs: &mut [u8], n: usize)
     requires { ⌜ (Fit (stored (now blocks) (now runs))) × (length (now pairs) ≡ 28680) × (n < 24) ⌝ }
     ensures { λ r. ⌜ BlockRedrawn (stored (now (blocks .entry)) (now (runs .entry))) n (now (pairs .entry)) (now (pairs .exit)) ⌝ }
 {
+    let mut near = [0u8; 24];
+    mark_near(blocks, &mut near);
     let mut start = 0;
     let mut j = 0;
     while j < 240 {
-        redraw_row(blocks, runs, &mut pairs[start..start + j], j, n);
+        redraw_row(blocks, runs, &near, &mut pairs[start..start + j], j, n);
         start += j;
         j += 1;
     }
 }
 
 // The pairs of mark k with the marks below it, worked out afresh.
-fn renew_row(blocks: &[u16], runs: &[u16], pairs: &mut [u8], k: usize)
-    requires { ⌜ (Fit (stored (now blocks) (now runs))) × (length (now pairs) ≡ 28680) × (k < 240) ⌝ }
+fn renew_row(blocks: &[u16], runs: &[u16], near: &[u8], pairs: &mut [u8], k: usize)
+    requires { ⌜ (Fit (stored (now blocks) (now runs))) × (Near (now blocks) (now near)) × (length (now pairs) ≡ 28680) × (k < 240) ⌝ }
     ensures { λ r. ⌜ Renewed (stored (now (blocks .entry)) (now (runs .entry))) (InRow k k) (now (pairs .entry)) (now (pairs .exit)) ⌝ }
 {
     let mut i = 0;
     while i < k {
         let at = pair_index(i, k);
-        pairs[at] = fresh_byte(blocks, runs, i, k);
+        pairs[at] = fresh_byte(blocks, runs, near, i, k);
         i += 1;
     }
 }
 
 // The pairs of mark k with the marks above it, worked out afresh.
-fn renew_column(blocks: &[u16], runs: &[u16], pairs: &mut [u8], k: usize)
-    requires { ⌜ (Fit (stored (now blocks) (now runs))) × (length (now pairs) ≡ 28680) × (k < 240) ⌝ }
+fn renew_column(blocks: &[u16], runs: &[u16], near: &[u8], pairs: &mut [u8], k: usize)
+    requires { ⌜ (Fit (stored (now blocks) (now runs))) × (Near (now blocks) (now near)) × (length (now pairs) ≡ 28680) × (k < 240) ⌝ }
     ensures { λ r. ⌜ Renewed (stored (now (blocks .entry)) (now (runs .entry))) (InColumn k 240) (now (pairs .entry)) (now (pairs .exit)) ⌝ }
 {
     let mut j = k + 1;
     while j < 240 {
         let at = pair_index(k, j);
-        pairs[at] = fresh_byte(blocks, runs, k, j);
+        pairs[at] = fresh_byte(blocks, runs, near, k, j);
         j += 1;
     }
 }
@@ -74,23 +78,25 @@ pub fn redraw_run(blocks: &[u16], runs: &[u16], pairs: &mut [u8], m: usize)
     requires { ⌜ (Fit (stored (now blocks) (now runs))) × (length (now pairs) ≡ 28680) × (m < 24) ⌝ }
     ensures { λ r. ⌜ RunRedrawn (stored (now (blocks .entry)) (now (runs .entry))) m (now (pairs .entry)) (now (pairs .exit)) ⌝ }
 {
+    let mut near = [0u8; 24];
+    mark_near(blocks, &mut near);
     let first = 192 + 2 * m;
     let second = 193 + 2 * m;
-    renew_row(blocks, runs, pairs, first);
-    renew_row(blocks, runs, pairs, second);
-    renew_column(blocks, runs, pairs, first);
-    renew_column(blocks, runs, pairs, second);
+    renew_row(blocks, runs, &near, pairs, first);
+    renew_row(blocks, runs, &near, pairs, second);
+    renew_column(blocks, runs, &near, pairs, first);
+    renew_column(blocks, runs, &near, pairs, second);
 }
 
 // Whether every byte of row j is what the records require.
-fn row_right(blocks: &[u16], runs: &[u16], pairs: &[u8], j: usize) -> bool
-    requires { ⌜ (Fit (stored (now blocks) (now runs))) × (length (now pairs) ≡ 28680) × (j < 240) ⌝ }
+fn row_right(blocks: &[u16], runs: &[u16], near: &[u8], pairs: &[u8], j: usize) -> bool
+    requires { ⌜ (Fit (stored (now blocks) (now runs))) × (Near (now blocks) (now near)) × (length (now pairs) ≡ 28680) × (j < 240) ⌝ }
     ensures { λ r. ⌜ Tells (RowRight (stored (now (blocks .entry)) (now (runs .entry))) (now (pairs .entry)) j j) r ⌝ }
 {
     let mut i = 0;
     while i < j {
         let at = pair_index(i, j);
-        let due = fresh_byte(blocks, runs, i, j);
+        let due = fresh_byte(blocks, runs, near, i, j);
         if pairs[at] != due {
             return false;
         }
@@ -104,9 +110,11 @@ pub fn pairs_right(blocks: &[u16], runs: &[u16], pairs: &[u8]) -> bool
     requires { ⌜ (Fit (stored (now blocks) (now runs))) × (length (now pairs) ≡ 28680) ⌝ }
     ensures { λ r. ⌜ Tells (PairsRight (stored (now (blocks .entry)) (now (runs .entry))) (now (pairs .entry))) r ⌝ }
 {
+    let mut near = [0u8; 24];
+    mark_near(blocks, &mut near);
     let mut j = 0;
     while j < 240 {
-        if !row_right(blocks, runs, pairs, j) {
+        if !row_right(blocks, runs, &near, pairs, j) {
             return false;
         }
         j += 1;

@@ -18,7 +18,7 @@ use Rattle.geometry.proofs.Obstructing.{hidden-sym}
 use Rattle.geometry.proofs.Searching.{block-word, part, part-is}
 use Rattle.tables.specs.Tables.{Records, stored, placeOf}
 use Rattle.tables.proofs.Marks.{corner-place}
-use Rattle.visibility.specs.Visibility.{ByPlaces, PairIs, absent, clear, hidden}
+use Rattle.visibility.specs.Visibility.{ByPlaces, PairIs, absent, clear, seam, hidden}
 use Rattle.sight.specs.inner.Diagonals.{Crosses}
 use Rattle.sight.proofs.Cones.{next-is, enters-cone}
 use Rattle.sight.proofs.Diagonals.{Diagonal, diagonal-sym, crosses-hides}
@@ -117,9 +117,11 @@ module _ (R : Records) (v u : ℕ) (t : Bool) where
 pub seen-byte : (R : Records) (v u byte : ℕ) → PairIs R v u byte → byte ≡ 254 → Tells (ByPlaces R v u) true
 seen-byte R v u byte (absent f e) q = absurd (omega arith)
 seen-byte R v u byte (clear t c e) q = tells-yes (t, c)
+seen-byte R v u byte (seam t c e) q = absurd (omega arith)
 seen-byte R v u byte (hidden t l h f) q = absurd (omega arith)
 
 pub unseen-byte : (R : Records) (v u byte : ℕ) → PairIs R v u byte → (byte ≡ 254 → ⊥) → Tells (ByPlaces R v u) false
 unseen-byte R v u byte (absent f e) q = tells-no (λ s. true≢false (sym (s .0) ∙ f))
 unseen-byte R v u byte (clear t c e) q = absurd (q e)
+unseen-byte R v u byte (seam t c e) q = tells-no (λ s. s .1 .unshared (c .shared))
 unseen-byte R v u byte (hidden t l h f) q = tells-no (λ s. s .1 .seen byte l h)

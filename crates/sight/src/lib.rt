@@ -10,6 +10,7 @@ ghost use Rattle.geometry.specs.Words.{pointOf, word, blockWords, corners};
 ghost use Rattle.geometry.specs.Obstruction.{cornerAt, sideTurn, Obstructs, Hidden};
 ghost use Rattle.geometry.specs.Convexity.{convex};
 ghost use Rattle.geometry.specs.inner.Bounds.{BoundedRecord, Bounded, InRange};
+ghost use Rattle.seams.specs.inner.Near.{Near};
 ghost use Rattle.tables.specs.Tables.{stored, placeOf};
 ghost use Rattle.visibility.specs.Visibility.{ByPlaces};
 ghost use Rattle.sight.specs.inner.Sight.{Sound};
@@ -136,13 +137,14 @@ fn hidden_by(blocks: &[u16], n: usize, a: Place, b: Place) -> bool
 fn unhidden(
     blocks: &[u16],
     runs: &[u16],
+    near: &[u8],
     last: &mut [u8],
     v: usize,
     a: Place,
     u: usize,
     b: Place,
 ) -> bool
-    requires records { ⌜ Sound (stored (now blocks) (now runs)) ⌝ }
+    requires records { ⌜ (Sound (stored (now blocks) (now runs))) × (Near (now blocks) (now near)) ⌝ }
     requires marks { ⌜ (v < 240) × (u < 240) × (length (now last) ≡ 240) ⌝ }
     requires places { ⌜ (pointOf a ≡ placeOf (stored (now blocks) (now runs)) v) × (pointOf b ≡ placeOf (stored (now blocks) (now runs)) u) ⌝ }
     ensures tells { λ r. ⌜ Tells (ByPlaces (stored (now (blocks .entry)) (now (runs .entry))) v u) r ⌝ }
@@ -151,7 +153,7 @@ fn unhidden(
     if hidden_by(blocks, last[v] as usize, a, b) {
         return false;
     }
-    let byte = visibility::fresh_byte(blocks, runs, v, u);
+    let byte = visibility::fresh_byte(blocks, runs, near, v, u);
     if byte == 254 {
         return true;
     }
@@ -164,13 +166,14 @@ fn unhidden(
 pub fn sees(
     blocks: &[u16],
     runs: &[u16],
+    near: &[u8],
     last: &mut [u8],
     v: usize,
     a: Place,
     u: usize,
     b: Place,
 ) -> bool
-    requires records { ⌜ Sound (stored (now blocks) (now runs)) ⌝ }
+    requires records { ⌜ (Sound (stored (now blocks) (now runs))) × (Near (now blocks) (now near)) ⌝ }
     requires marks { ⌜ (v < 240) × (u < 240) × (length (now last) ≡ 240) ⌝ }
     requires places { ⌜ (pointOf a ≡ placeOf (stored (now blocks) (now runs)) v) × (pointOf b ≡ placeOf (stored (now blocks) (now runs)) u) ⌝ }
     ensures tells { λ r. ⌜ Tells (ByPlaces (stored (now (blocks .entry)) (now (runs .entry))) v u) r ⌝ }
@@ -182,5 +185,5 @@ pub fn sees(
     if enters_own(blocks, runs, u, a) {
         return false;
     }
-    unhidden(blocks, runs, last, v, a, u, b)
+    unhidden(blocks, runs, near, last, v, a, u, b)
 }

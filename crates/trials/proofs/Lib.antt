@@ -1,4 +1,5 @@
 pub mod Sight
+pub mod Seams
 pub mod Measures
 pub mod Drawings
 pub mod Shut

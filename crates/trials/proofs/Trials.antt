@@ -1,11 +1,11 @@
 -- The table of trial yards, proved: one computed test, and one law that it says what a row says.
 use mathlib.Core.Path.{_≡_, refl, sym, _∙_}
 use mathlib.Core.List.{List, [], _∷_}
-use mathlib.Core.Bool.{Bool, true, false, _&&_, not, true≢false}
+use mathlib.Core.Bool.{Bool, true, false, _&&_, _||_, not, true≢false}
 use Prim.Native.Nat.{ℕ}
 use native.Mathlib.Omega.{arith}
 use lib.Dec.{eqb}
-use borrow.Author.Tests.{eqb-true, not-true}
+use borrow.Author.Tests.{eqb-true}
 use Rattle.lists.specs.Lists.{all, allBelow}
 use Rattle.lists.proofs.Every.{both, and-yes}
 use Rattle.geometry.specs.Words.{Point, placesFrom}
@@ -28,7 +28,7 @@ use Rattle.trials.specs.Rows.{Blocks, Row, sight, straight, way, shut, a
 use Rattle.trials.specs.Table.{rows}
 use Rattle.trials.proofs.Sight.{obstructed}
 use Rattle.trials.proofs.Measures.{measures, measured}
-use Rattle.trials.proofs.Drawings.{hiddenBy, seen, byteIs, byte-is}
+use Rattle.trials.proofs.Drawings.{hiddenBy, seen, scattered, between, byteIs, byte-is, shut-place}
 use Rattle.trials.proofs.Search.{labelled}
 use Rattle.trials.proofs.Shut.{starts-shut, ends-shut}
 use Rattle.trials.proofs.Ways.{shows, way-found}
@@ -51,13 +51,13 @@ same-is (x ∷ xs) (y ∷ ys) h = let p = both (eqb x y) _ h in λ i. eqb-true x
 -- what the table rests on: this test of a row, computed
 unfoldable passes : Row → Bool
 unfolding addBlocks stands blocksBook afterAll answers step answer questions written firstNo free countRight all convex sideTest allBelow sideTurn turn placesFrom obstructed
-    seen byteIs measures labelled shows same
+    seen scattered between byteIs measures labelled shows same
 passes (sight bs p q x) = stands bs && (placeRight p && placeRight q && byteIs (yardBook bs p q) p q x)
 passes (straight p q l) = measures (squared p q) l
 passes (way bs p q l []) = false
 passes (way bs p q l (v ∷ us)) =
-    stands bs && (placeRight p && placeRight q && (eqb v 192 && (eqb (labelled (yardBook bs p q) p q 192 .len) l && shows (yardBook bs p q) p q (labelled (yardBook bs p q) p q) us)))
-passes (shut bs p) = stands bs && (placeRight p && not (seen (blocksBook bs) p p))
+    stands bs && (placeRight p && placeRight q && (scattered (yardBook bs p q) && (eqb v 192 && (eqb (labelled (yardBook bs p q) p q 192 .len) l && shows (yardBook bs p q) p q (labelled (yardBook bs p q) p q) us))))
+passes (shut bs p) = stands bs && (placeRight p && (not (seen (blocksBook bs) p p) || between (blocksBook bs) p p))
 passes (answered es rs) = same (answers emptyBook es) rs
 
 tested : all passes rows ≡ true
@@ -71,10 +71,10 @@ byte-drawn b T x d h = pair-unique (records T) 192 193 _ x (d .right .pairs .eac
 route-drawn : (b : Book) (T : Tables) (ws : List ℕ) → Drawn b T → RouteIs (records T) (ByPlaces (records T)) 0 ws → routeWords (T .routes) 0 ≡ ws
 route-drawn b T ws d h = route-unique (records T) (ByPlaces (records T)) 0 (d .right .routes 0 (omega arith)) h
 
--- the run does not matter for what is seen
-seen-alone : (bs : Blocks) (p q a c : Point) → seen (yardBook bs p q) a c ≡ seen (blocksBook bs) a c
-unfolding seen hiddenBy
-seen-alone bs p q a c = refl
+-- the run does not matter for whether a place is shut
+shut-alone : (bs : Blocks) (p q a : Point) → not (seen (yardBook bs p q) a a) || between (yardBook bs p q) a a ≡ not (seen (blocksBook bs) a a) || between (blocksBook bs) a a
+unfolding seen hiddenBy between
+shut-alone bs p q a = refl
 
 passes-holds : (r : Row) → passes r ≡ true → Holds r
 unfolding passes Holds lengthOf
@@ -87,20 +87,20 @@ passes-holds (way bs p q l []) h = absurd (true≢false (sym h))
 passes-holds (way bs p q l (v ∷ us)) h =
     let s = both (stands bs) _ h in
     let r = both (placeRight p && placeRight q) _ (s .1) in
-    let a = both (eqb v 192) _ (r .1) in
+    let y = both (scattered (yardBook bs p q)) _ (r .1) in
+    let a = both (eqb v 192) _ (y .1) in
     let c = both (eqb (labelled (yardBook bs p q) p q 192 .len) l) _ (a .1) in
     leaves bs p q (s .0) (r .0) (Found l (v ∷ us))
     (λ T d. route-drawn _ T _ d (rw (eqb-true v 192 (a .0), ← eqb-true _ l (c .0))
-    (way-found (yardBook bs p q) p q (labelled (yardBook bs p q) p q) T d (run-stored bs p q (s .0) (r .0)) refl us (c .1))))
+    (way-found (yardBook bs p q) p q (labelled (yardBook bs p q) p q) T d (run-stored bs p q (s .0) (r .0)) (y .0) refl us (c .1))))
 passes-holds (shut bs p) h =
     let s = both (stands bs) _ h in
     let r = both (placeRight p) _ (s .1) in
-    let hides = not-true (seen (blocksBook bs) p p) (r .1) in
     λ q o.
     let from = and-yes (placeRight p) (placeRight q) (r .0) o in
     let to = and-yes (placeRight q) (placeRight p) o (r .0) in (
-      leaves bs p q (s .0) from NoWay (λ T d. route-drawn _ T _ d (starts-shut (yardBook bs p q) T d p q (run-stored bs p q (s .0) from) (seen-alone bs p q p p ∙ hides))),
-      leaves bs q p (s .0) to NoWay (λ T d. route-drawn _ T _ d (ends-shut (yardBook bs q p) T d q p (run-stored bs q p (s .0) to) (seen-alone bs q p p p ∙ hides))),
+      leaves bs p q (s .0) from NoWay (λ T d. route-drawn _ T _ d (starts-shut (yardBook bs p q) T d p q (run-stored bs p q (s .0) from) (shut-place _ T d p (shut-alone bs p q p ∙ r .1)))),
+      leaves bs q p (s .0) to NoWay (λ T d. route-drawn _ T _ d (ends-shut (yardBook bs q p) T d q p (run-stored bs q p (s .0) to) (shut-place _ T d p (shut-alone bs q p p ∙ r .1)))),
     )
 passes-holds (answered es rs) h = same-is (answers emptyBook es) rs h
 

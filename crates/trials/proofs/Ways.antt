@@ -24,7 +24,7 @@ use Rattle.book.specs.Drawing.{Drawn}
 use Rattle.trials.proofs.Sight.{or-else}
 use Rattle.book.proofs.Bare.{run-there}
 use Rattle.trials.proofs.Measures.{atLeast, measures, at-least, measured, measures-of}
-use Rattle.trials.proofs.Drawings.{seen, cornerMark, eachCorner, markAt, seen-yes, seen-of, corner-of, at-corner, Mark, start, finish, corner, place-is, present-is}
+use Rattle.trials.proofs.Drawings.{seen, scattered, cornerMark, eachCorner, markAt, seen-yes, seen-of, corner-of, at-corner, Mark, start, finish, corner, place-is, present-is}
 
 module _ (b : Book) (p q : Point) (L : ℕ → Label) where
   -- the sum of the squares between two marks
@@ -64,7 +64,7 @@ module _ (b : Book) (p q : Point) (L : ℕ → Label) where
   unfolding relaxesAll eachCorner walks
   shows us = relaxesAll 193 && (eachCorner b relaxesAll && walks 192 us)
 
-  module _ (T : Tables) (d : Drawn b T) (run : getD (b .runs) 0 [] ≡ p ∷ q ∷ []) (zero-end : L 193 ≡ label 0 0) where
+  module _ (T : Tables) (d : Drawn b T) (run : getD (b .runs) 0 [] ≡ p ∷ q ∷ []) (apart-all : scattered b ≡ true) (zero-end : L 193 ≡ label 0 0) where
     abbrev G : Graph
     G = graph (records T) (ByPlaces (records T))
 
@@ -80,7 +80,7 @@ module _ (b : Book) (p q : Point) (L : ℕ → Label) where
 
     edge-seen : {v u : ℕ} → At v → At u → (v ≡ u → ⊥) → sees v u ≡ true → G .Edge v u
     edge-seen m n a h =
-        (a, (and-yes (present (records T) _) _ (present-is b T d p q run m) (present-is b T d p q run n), rw (place-is b T d p q run m, place-is b T d p q run n) (seen-yes b T d _ _ h)))
+        (a, (and-yes (present (records T) _) _ (present-is b T d p q run m) (present-is b T d p q run n), rw (place-is b T d p q run m, place-is b T d p q run n) (seen-yes b T d apart-all _ _ h)))
 
     relaxed-by : {v u : ℕ} → At v → At u → relaxes v u ≡ true → G .Edge v u → L v ≼ hop (cost (records T) v u) (L u)
     unfolding relaxes

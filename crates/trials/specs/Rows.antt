@@ -18,7 +18,7 @@ abbrev pub Blocks : Type 0
 Blocks = List (List ℕ)
 
 pub data Row : Type 0 where
-  -- among the blocks, the byte of the straight between two places: 254 if clear, else the lowest block that hides it
+  -- among the blocks, the byte of the straight between two places: 254 if clear, 253 in a seam, else the lowest block that hides it
   sight : Blocks → Point → Point → ℕ → Row
   -- the length of the straight between two places
   straight : Point → Point → ℕ → Row

@@ -19,6 +19,13 @@ S = square ∷ []
 abbrev pub seam : Blocks
 seam = square ∷ beside ∷ []
 
+-- the block that shares S's corner (20,20), and one inside S that shares a part of its south side
+abbrev pub diagonal : List ℕ
+diagonal = 20 ∷ 20 ∷ 30 ∷ 20 ∷ 30 ∷ 30 ∷ 20 ∷ 30 ∷ []
+
+abbrev pub inner : List ℕ
+inner = 12 ∷ 10 ∷ 18 ∷ 10 ∷ 15 ∷ 15 ∷ []
+
 -- the blocks of the listed yard
 abbrev pub tall : List ℕ
 tall = 10 ∷ 6 ∷ 14 ∷ 7 ∷ 14 ∷ 40 ∷ 10 ∷ 40 ∷ []
@@ -50,8 +57,13 @@ rows =
     ∷ way S (point 0 15) (point 30 15) 34 (192 ∷ 0 ∷ 1 ∷ 193 ∷ [])
     -- an end inside S
     ∷ shut S (point 15 15)
-    -- along the seam of two blocks that touch
-    ∷ sight seam (point 20 0) (point 20 30) 254
+    -- along the seam of two blocks that touch, and an end in it
+    ∷ sight seam (point 20 0) (point 20 30) 253
+    ∷ shut seam (point 20 15)
+    -- past a corner that two blocks share, along the side of two equal blocks, of a block and one inside it
+    ∷ sight (square ∷ diagonal ∷ []) (point 10 30) (point 30 10) 253
+    ∷ sight (square ∷ square ∷ []) (point 0 10) (point 30 10) 253
+    ∷ sight (square ∷ inner ∷ []) (point 0 10) (point 30 10) 253
     -- the listed yard before block 1, and with it
     ∷ way (tall ∷ []) (point 0 10) (point 27 13) 31 (192 ∷ 0 ∷ 1 ∷ 193 ∷ [])
     ∷ way (tall ∷ small ∷ []) (point 0 10) (point 27 13) 30 (192 ∷ 10 ∷ 193 ∷ [])

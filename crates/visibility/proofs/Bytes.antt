@@ -13,33 +13,39 @@ use Rattle.lists.proofs.Telling.{tells-yes, tells-no}
 use Rattle.geometry.specs.Words.{Point}
 use Rattle.geometry.specs.inner.Bounds.{InRange}
 use Rattle.geometry.specs.Obstruction.{Hidden}
-use Rattle.geometry.specs.inner.Search.{Lowest, LowestIs, hiderByte}
+use Rattle.geometry.specs.inner.Search.{Lowest, LowestIs}
 use Rattle.geometry.specs.declared.Hider.{Hider}
 use Rattle.geometry.specs.declared.Hider.the-variants.{At, Nothing}
+use Rattle.seams.specs.Seam.{Shared}
 use Rattle.tables.specs.Tables.{Records, present, placeOf, OnBlock}
 use Rattle.tables.specs.inner.Fit.{Fit}
 use Rattle.tables.proofs.Marks.{place-in-range}
-use Rattle.visibility.specs.Visibility.{Hides, bothPresent, Clear, PairIs, absent, clear, hidden, Afresh, BlockPair}
-use Rattle.visibility.specs.inner.Bytes.{StraightIs, unhidden, lowest, MarkIs}
+use Rattle.visibility.specs.Visibility.{Hides, bothPresent, Unhidden, Clear, PairIs, absent, clear, seam, hidden, Afresh, BlockPair}
+use Rattle.visibility.specs.inner.Bytes.{StraightIs, visible, between, lowest, MarkIs}
 
--- the byte that the search's answer stands for
-pub number-small : (h : Hider) (n : ℕ) → hiderByte h ≤ 254 → h ≡ At n → n ≤ 254
-number-small h n l e = subst (λ (x : Hider). hiderByte x ≤ 254) e l
+-- the byte of a straight, from the answers of both searches
+module _ (blocks : List ℕ) (a b : Point) where
+  pub hider-small : (h : Hider) (n : ℕ) → Lowest blocks 0 24 a b h → h ≡ At n → n < 24
+  hider-small h n l e = subst (λ (x : Hider). Lowest blocks 0 24 a b x) e l .before
 
-pub straight-small : (blocks : List ℕ) (a b : Point) (h : Hider) → Lowest blocks 0 24 a b h → hiderByte h ≤ 254
-straight-small blocks a b (At n) l = omega (arith, l .before)
-straight-small blocks a b Nothing l = omega arith
+  pub straight-hidden : (h : Hider) (n : ℕ) → Lowest blocks 0 24 a b h → h ≡ At n → StraightIs blocks a b n
+  straight-hidden h n l e =
+      let m : LowestIs blocks 0 24 a b n = subst (λ (x : Hider). Lowest blocks 0 24 a b x) e l in
+      lowest (m .before) (m .hides) (λ k h g. m .lowest k (omega arith) h g)
 
-straight-of : (blocks : List ℕ) (a b : Point) (h : Hider) → Lowest blocks 0 24 a b h → StraightIs blocks a b (hiderByte h)
-straight-of blocks a b (At n) l = lowest (l .before) (l .hides) (λ k h g. l .lowest k (omega arith) h g)
-straight-of blocks a b Nothing l = unhidden (record { seen = λ k h g. l k (omega arith) h g }) refl
+  pub straight-unhidden : (h : Hider) → Lowest blocks 0 24 a b h → h ≡ Nothing → Unhidden blocks a b
+  straight-unhidden h l e k x g = subst (λ (x : Hider). Lowest blocks 0 24 a b x) e l k (omega arith) x g
 
-pub straight-is : (blocks : List ℕ) (a b : Point) (h : Hider) (byte : ℕ) → Lowest blocks 0 24 a b h → byte ≡ hiderByte h → StraightIs blocks a b byte
-straight-is blocks a b h byte l e = rw e (straight-of blocks a b h l)
+  pub straight-shared : (t : Bool) → Unhidden blocks a b → Tells (Shared blocks a b) t → t ≡ true → StraightIs blocks a b 253
+  straight-shared t u h e = between (record { seen = u; shared = h .yes′ e }) refl
+
+  pub straight-open : (t : Bool) → Unhidden blocks a b → Tells (Shared blocks a b) t → t ≡ false → StraightIs blocks a b 254
+  straight-open t u h e = visible (record { seen = u; unshared = h .no′ e }) refl
 
 -- a straight is clear where its byte is 254
 pub clear-is : (blocks : List ℕ) (a b : Point) (byte : ℕ) → StraightIs blocks a b byte → Tells (Clear blocks a b) (eqb byte 254)
-clear-is blocks a b byte (unhidden c e) = rw (eq-eqb byte 254 e) (tells-yes c)
+clear-is blocks a b byte (visible c e) = rw (eq-eqb byte 254 e) (tells-yes c)
+clear-is blocks a b byte (between s e) = rw (ne-eqb byte 254 (λ (f : byte ≡ 254). omega arith)) (tells-no (λ c. c .unshared (s .shared)))
 clear-is blocks a b byte (lowest l h f) = rw (ne-eqb byte 254 (λ (e : byte ≡ 254). omega arith)) (tells-no (λ c. c .seen byte l h))
 
 -- what the search's two answers say of one block
@@ -72,7 +78,7 @@ module _ (R : Records) (i j : ℕ) where
   there-both : (t there : Bool) (p : Point) → MarkIs R j there p → there ≡ true → t ≡ present R i → t ≡ true → bothPresent R i j ≡ true
   there-both t there p m e g h = rw (sym g ∙ h, sym (m .presence) ∙ e)
 
-  -- the three ways to a fresh byte
+  -- the ways to a fresh byte
   pub fresh-high : (there : Bool) (p : Point) → MarkIs R j there p → there ≡ false → PairIs R i j 255
   fresh-high there p m e = absent (absent-high there p m e) refl
 
@@ -81,8 +87,8 @@ module _ (R : Records) (i j : ℕ) where
 
   pub fresh-straight : (t there : Bool) (a b : Point) (byte : ℕ) → MarkIs R j there b → there ≡ true → t ≡ present R i → t ≡ true → a ≡ placeOf R i
       → StraightIs (R .blocks) a b byte → PairIs R i j byte
-  fresh-straight t there a b byte m e g h q (unhidden f o) =
-      clear (there-both t there b m e g h) (rw (q, m .place) at f) o
+  fresh-straight t there a b byte m e g h q (visible f o) = clear (there-both t there b m e g h) (rw (q, m .place) at f) o
+  fresh-straight t there a b byte m e g h q (between f o) = seam (there-both t there b m e g h) (rw (q, m .place) at f) o
   fresh-straight t there a b byte m e g h q (lowest l x f) =
       hidden (there-both t there b m e g h) l (rw (q, m .place) at x) (λ k s y. f k s (rw (q, m .place) y))
 
@@ -118,7 +124,7 @@ module _ (R : Records) (i j : ℕ) where
           }
         where
           above : Dec (old ≡ n) → n < old
-          above (yes o) = absurd (f .no′ e (inr o))
+          above (yes o) = absurd (f .no′ e (inl (inr o)))
           above (no o) = omega arith
 
 -- which block a mark is on
@@ -130,15 +136,23 @@ off-is n i d h = d (omega (arith, h .0, h .1))
 
 module _ (n i j old : ℕ) where
   pub asks-low : i / 8 ≡ n → Tells (Afresh n i j old) true
-  asks-low e = tells-yes (inl (inl (on-is n i e)))
+  asks-low e = tells-yes (inl (inl (inl (on-is n i e))))
 
   pub asks-high : j / 8 ≡ n → Tells (Afresh n i j old) true
-  asks-high e = tells-yes (inl (inr (on-is n j e)))
+  asks-high e = tells-yes (inl (inl (inr (on-is n j e))))
 
-  pub asks-byte : (i / 8 ≡ n → ⊥) → (j / 8 ≡ n → ⊥) → Tells (Afresh n i j old) (eqb old n)
-  asks-byte a b = record { yes′ = λ t. inr (eqb-true old n t); no′ = λ t. none t }
+  pub asks-own : old ≡ n → Tells (Afresh n i j old) true
+  asks-own e = tells-yes (inl (inr e))
+
+  pub asks-seam : old ≡ 253 → Tells (Afresh n i j old) true
+  asks-seam e = tells-yes (inr (inl e))
+
+  pub asks-clear : (i / 8 ≡ n → ⊥) → (j / 8 ≡ n → ⊥) → (old ≡ n → ⊥) → (old ≡ 253 → ⊥) → Tells (Afresh n i j old) (eqb old 254)
+  asks-clear a b c d = record { yes′ = λ t. inr (inr (eqb-true old 254 t)); no′ = λ t. none t }
     where
-      none : eqb old n ≡ false → Afresh n i j old → ⊥
-      none t (inl (inl h)) = off-is n i a h
-      none t (inl (inr h)) = off-is n j b h
-      none t (inr h) = eqb-false old n t h
+      none : eqb old 254 ≡ false → Afresh n i j old → ⊥
+      none t (inl (inl (inl h))) = off-is n i a h
+      none t (inl (inl (inr h))) = off-is n j b h
+      none t (inl (inr h)) = c h
+      none t (inr (inl h)) = d h
+      none t (inr (inr h)) = eqb-false old 254 t h

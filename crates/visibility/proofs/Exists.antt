@@ -1,15 +1,17 @@
 -- Every two marks have a byte, and every pair table one that an edit makes of it.
-use mathlib.Core.Path.{_≡_, refl}
+use mathlib.Core.Path.{_≡_, refl, sym, _∙_}
 use mathlib.Core.Logic.{_⊎_, inl, inr}
-use mathlib.Core.Bool.{Bool, true, false, Bool-discrete}
+use mathlib.Core.Bool.{Bool, true, false, true≢false, Bool-discrete}
 use mathlib.Core.List.{List}
 use Prim.Native.Nat.{ℕ, zero, suc, _<_}
 use native.Mathlib.Omega.{arith}
 use native.Mathlib.Decide.{decLt}
 use Rattle.geometry.specs.Words.{word}
-use Rattle.tables.specs.Tables.{Records, OnRun, pairIndex}
+use Rattle.seams.specs.Seam.{Shared}
+use Rattle.seams.proofs.Deciding.{shared-dec}
+use Rattle.tables.specs.Tables.{Records, placeOf, OnRun, pairIndex}
 use Rattle.tables.proofs.Joined.{PairTable, pairs-exist}
-use Rattle.visibility.specs.Visibility.{Hides, bothPresent, PairIs, absent, clear, hidden, Afresh, BlockPair, RunPair, BlockRedrawn, RunRedrawn}
+use Rattle.visibility.specs.Visibility.{Hides, bothPresent, ByPlaces, PairIs, absent, clear, seam, hidden, Afresh, BlockPair, RunPair, BlockRedrawn, RunRedrawn}
 use Rattle.visibility.proofs.Lasting.{onRun-dec, hides-dec, afresh-dec}
 
 abbrev NoneBelow : (ℕ → Type 0) → ℕ → Type 0
@@ -35,10 +37,24 @@ lowest-or-none P dec (suc n) = go (lowest-or-none P dec n) (dec n)
 pub pair-exists : (R : Records) (i j : ℕ) → (b : ℕ) × PairIs R i j b
 pair-exists R i j = go (bothPresent R i j) refl (lowest-or-none _ (λ n. hides-dec R n i j) 24)
   where
+    unhidden : bothPresent R i j ≡ true → NoneBelow (λ n. Hides R n i j) 24 → Dec (Shared (R .blocks) (placeOf R i) (placeOf R j)) → (b : ℕ) × PairIs R i j b
+    unhidden e none (yes s) = (253, seam e (record { seen = none; shared = s }) refl)
+    unhidden e none (no s) = (254, clear e (record { seen = none; unshared = s }) refl)
+
     go : (t : Bool) → bothPresent R i j ≡ t → LowestBelow (λ n. Hides R n i j) 24 ⊎ NoneBelow (λ n. Hides R n i j) 24 → (b : ℕ) × PairIs R i j b
     go false e s = (255, absent e refl)
     go true e (inl f) = (f .0, hidden e (f .1) (f .2) (f .3))
-    go true e (inr none) = (254, clear e (record { seen = none }) refl)
+    go true e (inr none) = unhidden e none (shared-dec (R .blocks) _ _)
+
+-- a pair's byte says whether its straight is clear
+pub places-dec : (R : Records) (v u : ℕ) → Dec (ByPlaces R v u)
+places-dec R v u = go (pair-exists R v u .0) (pair-exists R v u .1)
+  where
+    go : (b : ℕ) → PairIs R v u b → Dec (ByPlaces R v u)
+    go b (absent e o) = no (λ h. true≢false (sym (h .0) ∙ e))
+    go b (clear e c o) = yes (e, c)
+    go b (seam e c o) = no (λ h. h .1 .unshared (c .shared))
+    go b (hidden e l h m) = no (λ c. c .1 .seen b l h)
 
 blockPair-exists : (R : Records) (n i j old : ℕ) → (b : ℕ) × BlockPair R n i j old b
 blockPair-exists R n i j old = go (afresh-dec n i j old)

@@ -12,6 +12,7 @@ use Rattle.geometry.specs.inner.Sides.{In}
 use Rattle.geometry.proofs.Signed.{_⊖_, diff, undiff, positive, ⊖-lt, below-or-not}
 use Rattle.geometry.proofs.Weights.{in-neither, enters-of, of-enters}
 use Rattle.geometry.proofs.Obstructing.{by-turns, of-turns, hidden-sym}
+use Rattle.seams.proofs.Seams.{shared-sym, shared-end}
 use Rattle.visibility.specs.Visibility.{Clear}
 
 last-in : (x y : ℤ) → pos 0 <ℤ y → In 0 1 x y
@@ -26,7 +27,11 @@ obstructs-end ps a b h =
     of-turns ps a b (enters-of (length ps) (sideTurn ps a) (sideTurn ps b) 0 1 (omega arith) (λ k l. end-in (e .0) (e .1) (sideTurn ps a k) (sideTurn ps b k) (e .3 k l)))
 
 pub clear-sym : {blocks : List ℕ} {a b : Point} → Clear blocks a b → Clear blocks b a
-clear-sym {blocks} {a} {b} c = record { seen = λ n l h. c .seen n l (hidden-sym blocks n b a h) }
+clear-sym {blocks} {a} {b} c = record { seen = λ n l h. c .seen n l (hidden-sym blocks n b a h); unshared = λ h. c .unshared (shared-sym blocks b a h) }
 
 pub clear-end : {blocks : List ℕ} {a b : Point} → Clear blocks a b → Clear blocks b b
-clear-end {blocks} {a} {b} c = record { seen = λ n l h. c .seen n l (record { stands = h .stands; across = obstructs-end (corners (blockWords blocks n)) a b (h .across) }) }
+clear-end {blocks} {a} {b} c =
+    record {
+      seen = λ n l h. c .seen n l (record { stands = h .stands; across = obstructs-end (corners (blockWords blocks n)) a b (h .across) });
+      unshared = λ h. c .unshared (shared-sym blocks b a (shared-end blocks b a h));
+    }

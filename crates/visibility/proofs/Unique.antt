@@ -8,18 +8,25 @@ use native.Mathlib.Omega.{arith}
 use native.Mathlib.Decide.{decLt}
 use Rattle.tables.specs.Tables.{Records, OnRun}
 use Rattle.tables.proofs.Pairs.{pairs-ext}
-use Rattle.visibility.specs.Visibility.{Hides, bothPresent, PairIs, absent, clear, hidden, Afresh, BlockPair, RunPair, BlockRedrawn, RunRedrawn}
+use Rattle.visibility.specs.Visibility.{Hides, bothPresent, PairIs, absent, clear, seam, hidden, Afresh, BlockPair, RunPair, BlockRedrawn, RunRedrawn}
 use Rattle.visibility.proofs.Lasting.{onRun-dec, hides-dec, afresh-dec}
 
 pub pair-unique : (R : Records) (i j a b : ℕ) → PairIs R i j a → PairIs R i j b → a ≡ b
 pair-unique R i j a b (absent e o) (absent f p) = omega arith
 pair-unique R i j a b (absent e o) (clear f c p) = absurd (true≢false (sym f ∙ e))
+pair-unique R i j a b (absent e o) (seam f c p) = absurd (true≢false (sym f ∙ e))
 pair-unique R i j a b (absent e o) (hidden f l h m) = absurd (true≢false (sym f ∙ e))
 pair-unique R i j a b (clear e d o) (absent f p) = absurd (true≢false (sym e ∙ f))
 pair-unique R i j a b (clear e d o) (clear f c p) = omega arith
+pair-unique R i j a b (clear e d o) (seam f c p) = absurd (d .unshared (c .shared))
 pair-unique R i j a b (clear e d o) (hidden f l h m) = absurd (d .seen b l h)
+pair-unique R i j a b (seam e d o) (absent f p) = absurd (true≢false (sym e ∙ f))
+pair-unique R i j a b (seam e d o) (clear f c p) = absurd (c .unshared (d .shared))
+pair-unique R i j a b (seam e d o) (seam f c p) = omega arith
+pair-unique R i j a b (seam e d o) (hidden f l h m) = absurd (d .seen b l h)
 pair-unique R i j a b (hidden e k g n) (absent f p) = absurd (true≢false (sym e ∙ f))
 pair-unique R i j a b (hidden e k g n) (clear f c p) = absurd (c .seen a k g)
+pair-unique R i j a b (hidden e k g n) (seam f c p) = absurd (c .seen a k g)
 pair-unique R i j a b (hidden e k g n) (hidden f l h m) = go (decLt a b) (decLt b a)
   where
     go : Dec (a < b) → Dec (b < a) → a ≡ b

@@ -7,6 +7,7 @@ use Prim.Native.Nat.{ℕ, _<_}
 use lib.ListN.{length}
 use Rattle.geometry.specs.Words.{Point, word}
 use Rattle.geometry.specs.Obstruction.{Hidden}
+use Rattle.seams.specs.Seam.{Shared}
 use Rattle.tables.specs.Tables.{Records, present, placeOf, pairIndex, OnBlock, OnRun}
 
 -- block n hides the straight between marks i and j
@@ -17,9 +18,19 @@ Hides R n i j = Hidden (R .blocks) n (placeOf R i) (placeOf R j)
 abbrev pub bothPresent : Records → ℕ → ℕ → Bool
 bothPresent R i j = present R i && present R j
 
--- the straight from a to b is clear: no block hides it
+-- no block hides the straight from a to b
+abbrev pub Unhidden : List ℕ → Point → Point → Type 0
+Unhidden blocks a b = (n : ℕ) → n < 24 → Hidden blocks n a b → ⊥
+
+-- the straight from a to b is clear: no block hides it, and no place of it belongs to two
 pub record Clear (blocks : List ℕ) (a b : Point) : Type 0 where
-  pub seen : (n : ℕ) → n < 24 → Hidden blocks n a b → ⊥
+  pub seen : Unhidden blocks a b
+  pub unshared : Shared blocks a b → ⊥
+
+-- it lies in a seam: no block hides it, and some place of it belongs to two
+pub record InSeam (blocks : List ℕ) (a b : Point) : Type 0 where
+  pub seen : Unhidden blocks a b
+  pub shared : Shared blocks a b
 
 -- the straight between two marks is clear, by the stored records
 abbrev pub ClearBetween : Records → ℕ → ℕ → Type 0
@@ -33,15 +44,16 @@ ByPlaces R v u = (bothPresent R v u ≡ true) × ClearBetween R v u
 pub data PairIs (R : Records) (i j b : ℕ) : Type 0 where
   absent : bothPresent R i j ≡ false → b ≡ 255 → PairIs R i j b
   clear : bothPresent R i j ≡ true → ClearBetween R i j → b ≡ 254 → PairIs R i j b
+  seam : bothPresent R i j ≡ true → InSeam (R .blocks) (placeOf R i) (placeOf R j) → b ≡ 253 → PairIs R i j b
   hidden : bothPresent R i j ≡ true → b < 24 → Hides R b i j → ((n : ℕ) → n < b → Hides R n i j → ⊥) → PairIs R i j b
 
 -- every byte of the pair table is what the stored blocks and runs require
 pub record PairsRight (R : Records) (pairs : List ℕ) : Type 0 where
   pub each : (i j : ℕ) → i < j → j < 240 → PairIs R i j (word pairs (pairIndex i j))
 
--- an edit of block n works the byte of marks i and j out afresh: they are on its marks, or the byte was n
+-- an edit of block n works the byte of marks i and j out afresh: they are on its marks, or the byte was n, 253 or 254
 abbrev pub Afresh : ℕ → ℕ → ℕ → ℕ → Type 0
-Afresh n i j old = (OnBlock n i ⊎ OnBlock n j) ⊎ (old ≡ n)
+Afresh n i j old = ((OnBlock n i ⊎ OnBlock n j) ⊎ (old ≡ n)) ⊎ ((old ≡ 253) ⊎ (old ≡ 254))
 
 -- the byte of marks i and j before and after an edit of block n; R are the records as they now stand
 pub record BlockPair (R : Records) (n i j old new : ℕ) : Type 0 where

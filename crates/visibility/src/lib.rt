@@ -1,14 +1,13 @@
 // The byte of two marks, as the stored records require it and as an edit leaves it.
-ghost use mathlib.Core.Path.{_≡_};
-ghost use Prim.Native.Nat.{_+_, _<_, _≤_};
+ghost use Prim.Native.Nat.{_+_, _<_};
 ghost use Rattle.geometry.specs.Words.{pointOf};
 ghost use Rattle.geometry.specs.inner.Bounds.{Bounded, InRange};
-ghost use Rattle.geometry.specs.inner.Search.{hiderByte};
+ghost use Rattle.seams.specs.inner.Near.{Near};
 ghost use Rattle.tables.specs.Tables.{stored};
 ghost use Rattle.tables.specs.inner.Fit.{Fit};
 ghost use Rattle.geometry.specs.Obstruction.{Hidden};
 ghost use Rattle.lists.specs.inner.Tells.{Tells};
-ghost use Rattle.visibility.specs.Visibility.{Clear, PairIs, Afresh, BlockPair};
+ghost use Rattle.visibility.specs.Visibility.{Unhidden, Clear, PairIs, Afresh, BlockPair};
 ghost use Rattle.visibility.specs.inner.Bytes.{StraightIs, MarkIs};
 use geometry::Hider;
 use geometry::Place;
@@ -16,23 +15,28 @@ use geometry::lowest_hider;
 use tables::is_present;
 use tables::place_of;
 
-// The pair byte that an answer of the search stands for.
-fn byte_of(h: Hider) -> u8
-    requires { ⌜ hiderByte h ≤ 254 ⌝ }
-    ensures { λ r. ⌜ r ≡ hiderByte h ⌝ }
+// The byte of a straight that no block hides.
+fn unhidden_byte(blocks: &[u16], near: &[u8], a: Place, b: Place) -> u8
+    requires blocks { ⌜ (Bounded (now blocks)) × (Near (now blocks) (now near)) ⌝ }
+    requires ends { ⌜ (InRange (pointOf a)) × (InRange (pointOf b)) × (Unhidden (now blocks) (pointOf a) (pointOf b)) ⌝ }
+    ensures { λ r. ⌜ StraightIs (now (blocks .entry)) (pointOf a) (pointOf b) r ⌝ }
 {
-    match h {
-        Hider::At(n) => n as u8,
-        Hider::Nothing => 254,
+    if seams::shared(blocks, near, a, b) {
+        return 253;
     }
+    254
 }
 
 // The byte of a straight between present marks at a and b.
-fn straight_byte(blocks: &[u16], a: Place, b: Place) -> u8
-    requires { ⌜ (Bounded (now blocks)) × (InRange (pointOf a)) × (InRange (pointOf b)) ⌝ }
+fn straight_byte(blocks: &[u16], near: &[u8], a: Place, b: Place) -> u8
+    requires blocks { ⌜ (Bounded (now blocks)) × (Near (now blocks) (now near)) ⌝ }
+    requires ends { ⌜ (InRange (pointOf a)) × (InRange (pointOf b)) ⌝ }
     ensures { λ r. ⌜ StraightIs (now (blocks .entry)) (pointOf a) (pointOf b) r ⌝ }
 {
-    byte_of(lowest_hider(blocks, 0, 24, a, b))
+    match lowest_hider(blocks, 0, 24, a, b) {
+        Hider::At(n) => n as u8,
+        Hider::Nothing => unhidden_byte(blocks, near, a, b),
+    }
 }
 
 // Whether block n hides the straight from a to b.
@@ -47,16 +51,34 @@ fn hides(blocks: &[u16], n: usize, a: Place, b: Place) -> bool
 }
 
 // Whether the straight from a to b is clear: for callers that have the records and no pair table.
-pub fn is_clear(blocks: &[u16], a: Place, b: Place) -> bool
-    requires { ⌜ (Bounded (now blocks)) × (InRange (pointOf a)) × (InRange (pointOf b)) ⌝ }
+pub fn is_clear(blocks: &[u16], near: &[u8], a: Place, b: Place) -> bool
+    requires blocks { ⌜ (Bounded (now blocks)) × (Near (now blocks) (now near)) ⌝ }
+    requires ends { ⌜ (InRange (pointOf a)) × (InRange (pointOf b)) ⌝ }
     ensures { λ r. ⌜ Tells (Clear (now (blocks .entry)) (pointOf a) (pointOf b)) r ⌝ }
 {
-    straight_byte(blocks, a, b) == 254
+    straight_byte(blocks, near, a, b) == 254
+}
+
+// The same of one place, for a caller that has not compared the blocks.
+pub fn is_clear_place(blocks: &[u16], p: Place) -> bool
+    requires { ⌜ (Bounded (now blocks)) × (InRange (pointOf p)) ⌝ }
+    ensures { λ r. ⌜ Tells (Clear (now (blocks .entry)) (pointOf p) (pointOf p)) r ⌝ }
+{
+    let every = [1u8; 24];
+    is_clear(blocks, &every, p, p)
 }
 
 // The byte that the stored records require for mark i and mark j, which is known.
-fn byte_with(blocks: &[u16], runs: &[u16], i: usize, j: usize, there: bool, b: Place) -> u8
-    requires { ⌜ (Fit (stored (now blocks) (now runs))) × (i < 240) × (j < 240) × (MarkIs (stored (now blocks) (now runs)) j there (pointOf b)) ⌝ }
+fn byte_with(
+    blocks: &[u16],
+    runs: &[u16],
+    near: &[u8],
+    i: usize,
+    j: usize,
+    there: bool,
+    b: Place,
+) -> u8
+    requires { ⌜ (Fit (stored (now blocks) (now runs))) × (Near (now blocks) (now near)) × (i < 240) × (j < 240) × (MarkIs (stored (now blocks) (now runs)) j there (pointOf b)) ⌝ }
     ensures { λ r. ⌜ PairIs (stored (now (blocks .entry)) (now (runs .entry))) i j r ⌝ }
 {
     if !there {
@@ -66,20 +88,20 @@ fn byte_with(blocks: &[u16], runs: &[u16], i: usize, j: usize, there: bool, b: P
         return 255;
     }
     let a = place_of(blocks, runs, i);
-    straight_byte(blocks, a, b)
+    straight_byte(blocks, near, a, b)
 }
 
 // The byte that the stored records require for marks i and j.
-pub fn fresh_byte(blocks: &[u16], runs: &[u16], i: usize, j: usize) -> u8
-    requires { ⌜ (Fit (stored (now blocks) (now runs))) × (i < 240) × (j < 240) ⌝ }
+pub fn fresh_byte(blocks: &[u16], runs: &[u16], near: &[u8], i: usize, j: usize) -> u8
+    requires { ⌜ (Fit (stored (now blocks) (now runs))) × (Near (now blocks) (now near)) × (i < 240) × (j < 240) ⌝ }
     ensures { λ r. ⌜ PairIs (stored (now (blocks .entry)) (now (runs .entry))) i j r ⌝ }
 {
     let there = is_present(blocks, runs, j);
     let b = place_of(blocks, runs, j);
-    byte_with(blocks, runs, i, j, there, b)
+    byte_with(blocks, runs, near, i, j, there, b)
 }
 
-// Whether the pair is worked out afresh after an edit of block n: it is on the block's marks, or its byte was n.
+// Whether the pair is worked out afresh after an edit of block n: it is on the block's marks, or its byte was n, 253 or 254.
 fn asks_fresh(n: usize, i: usize, j: usize, old: u8) -> bool
     ensures { λ r. ⌜ Tells (Afresh n i j old) r ⌝ }
 {
@@ -89,13 +111,20 @@ fn asks_fresh(n: usize, i: usize, j: usize, old: u8) -> bool
     if j / 8 == n {
         return true;
     }
-    old as usize == n
+    if old as usize == n {
+        return true;
+    }
+    if old == 253 {
+        return true;
+    }
+    old == 254
 }
 
 // The byte of marks i and j after an edit of block n; mark j is known.
 pub fn block_byte(
     blocks: &[u16],
     runs: &[u16],
+    near: &[u8],
     n: usize,
     i: usize,
     j: usize,
@@ -103,11 +132,11 @@ pub fn block_byte(
     b: Place,
     old: u8,
 ) -> u8
-    requires { ⌜ (Fit (stored (now blocks) (now runs))) × (n < 24) × (i < 240) × (j < 240) × (MarkIs (stored (now blocks) (now runs)) j there (pointOf b)) ⌝ }
+    requires { ⌜ (Fit (stored (now blocks) (now runs))) × (Near (now blocks) (now near)) × (n < 24) × (i < 240) × (j < 240) × (MarkIs (stored (now blocks) (now runs)) j there (pointOf b)) ⌝ }
     ensures { λ r. ⌜ BlockPair (stored (now (blocks .entry)) (now (runs .entry))) n i j old r ⌝ }
 {
     if asks_fresh(n, i, j, old) {
-        return byte_with(blocks, runs, i, j, there, b);
+        return byte_with(blocks, runs, near, i, j, there, b);
     }
     if (old as usize) < n {
         return old;

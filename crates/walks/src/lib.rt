@@ -20,7 +20,7 @@ use sweeps::line_key;
 use sweeps::lower64;
 use sweeps::open_keys;
 use sweeps::search;
-use visibility::is_clear;
+use visibility::is_clear_place;
 
 // The least key of v after a step east or west.
 fn across(
@@ -208,7 +208,7 @@ pub fn find_path(
     ensures { λ r. ⌜ Outcoming (net (now (blocks .entry)) (ruled (now (xs .entry)) nx (now (ys .entry)) ny)) start end (now (trail .exit)) (length (now (keys .exit))) (r .count) (r .cost) ⌝ }
 {
     let p = spot(xs, ys, end);
-    if !is_clear(blocks, p, p) {
+    if !is_clear_place(blocks, p) {
         return Outcome { count: 0, cost: 0 };
     }
     let mut steps = [0u8; 4356];

@@ -8,10 +8,10 @@ use Rattle.crossings.proofs.chart.Statement.{statement}
 use Rattle.crossings.proofs.chart.Tie as tie
 
 abbrev Inv-loop : tie.InvT-loop
-Inv-loop blocks xs nx ys ny steps₀ v₀ steps v = (v ≤ 4356) × Charted blocks (ruled xs nx ys ny) steps v
+Inv-loop blocks xs nx ys ny steps₀ near v₀ steps v = (v ≤ 4356) × Charted blocks (ruled xs nx ys ny) steps v
 
 abbrev μ-loop : tie.MeasureT-loop
-μ-loop blocks xs nx ys ny steps₀ v₀ steps v = 4356 - v
+μ-loop blocks xs nx ys ny steps₀ near v₀ steps v = 4356 - v
 
 loop-holds : tie.Need-loop-holds Inv-loop μ-loop
 loop-holds c = (omega arith, search charted-none)
@@ -20,7 +20,7 @@ mul-steps : tie.Need-mul-steps Inv-loop μ-loop
 mul-steps c = omega (arith, c .east-bit .ensures .small)
 
 add-steps : tie.Need-add-steps Inv-loop μ-loop
-add-steps c = omega (arith, c .before .north-bit .ensures .small, c .east-bit .ensures .small)
+add-steps c = omega (arith, c .before .before .north-bit .ensures .small, c .east-bit .ensures .small)
 
 loop-again : tie.Need-loop-again Inv-loop μ-loop
 loop-again c = (omega arith, search charted-next)
@@ -34,8 +34,12 @@ chart-spec =
     (tie.spec
     Inv-loop
     μ-loop
-    loop-holds
+    (λ c. search needs)
     (λ c κs. search needs)
+    loop-holds
+    (λ c. search needs)
+    (λ c κs. search needs)
+    (λ c. search needs)
     (λ c κs. search needs)
     mul-steps
     add-steps

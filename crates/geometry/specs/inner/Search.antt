@@ -17,8 +17,3 @@ pub record LowestIs (blocks : List ℕ) (from to : ℕ) (a b : Point) (n : ℕ) 
 abbrev pub Lowest : List ℕ → ℕ → ℕ → Point → Point → Hider → Type 0
 Lowest blocks from to a b (At n) = LowestIs blocks from to a b n
 Lowest blocks from to a b Nothing = (k : ℕ) → from ≤ k → k < to → Hidden blocks k a b → ⊥
-
--- the pair byte that each answer stands for: the block's number, or 254 for a clear straight
-abbrev pub hiderByte : Hider → ℕ
-hiderByte (At n) = n
-hiderByte Nothing = 254

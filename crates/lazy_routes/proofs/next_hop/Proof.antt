@@ -14,15 +14,15 @@ use Rattle.lazy_routes.proofs.next_hop.Statement.{statement}
 use Rattle.lazy_routes.proofs.next_hop.Tie as tie
 
 abbrev Inv-loop : tie.InvT-loop
-Inv-loop blocks runs last₀ key v second a kv u₀ last u = (u ≤ 192) × (length last ≡ 240) × ((w : ℕ) → w < u → TightKey (straights (stored blocks runs)) v w kv (word key w) → ⊥)
+Inv-loop blocks runs near last₀ key v second a kv u₀ last u = (u ≤ 192) × (length last ≡ 240) × ((w : ℕ) → w < u → TightKey (straights (stored blocks runs)) v w kv (word key w) → ⊥)
 
 abbrev μ-loop : tie.MeasureT-loop
-μ-loop blocks runs last₀ key v second a kv u₀ last u = 192 - u
+μ-loop blocks runs near last₀ key v second a kv u₀ last u = 192 - u
 
 tight-requires : tie.Need-tight-requires Inv-loop μ-loop
 tight-requires c κs =
-    let s = c .before .before .before .before .before .before .before .before .before .before in
-    ((s .pre .0 .0, c .before .before .before .loop .inv .1, c .before .before .before .before .before .place-of .ensures), (s .pre .1 .0, omega arith, λ q. ap (word (s .args .key .now)) q))
+    let s = c .before .before .before .before .before .before .before .before .before .before .before in
+    ((s .pre .0 .0, s .pre .0 .1, c .before .before .before .loop .inv .1, c .before .before .before .before .before .place-of .ensures), (s .pre .1 .0, omega arith, λ q. ap (word (s .args .key .now)) q))
 
 returns : tie.Need-returns Inv-loop μ-loop
 returns c =
@@ -36,7 +36,7 @@ loop-again c = (omega arith, c .before .before .before .tight .ensures .1, below
 
 returns-2 : tie.Need-returns-2 Inv-loop μ-loop
 returns-2 c =
-    let s = c .before .before .before .before .before .before .before .before in (
+    let s = c .before .before .before .before .before .before .before .before .before in (
       record { within = inr refl; tight = λ b. absurd (omega (arith, s .pre .1 .1)); least = λ w b d. c .before .loop .inv .2 w (omega arith) },
       c .before .loop .inv .1,
     )
@@ -50,14 +50,14 @@ next-hop-spec =
     (λ c κs. search needs)
     (λ c. search needs)
     (λ c. search needs)
-    (λ c. (omega arith, c .before .before .before .before .before .before .pre .0 .1, λ w l. absurd (omega arith)))
+    (λ c. (omega arith, c .before .before .before .before .before .before .before .pre .0 .2, λ w l. absurd (omega arith)))
     (λ c. search needs)
     (λ c. search needs)
     tight-requires
-    (λ c. c .before .before .before .tight .ensures .1 ∙ sym (c .before .before .before .before .before .before .before .before .before .before .before .before .before .before .pre .0 .1))
+    (λ c. c .before .before .before .tight .ensures .1 ∙ sym (c .before .before .before .before .before .before .before .before .before .before .before .before .before .before .before .pre .0 .2))
     returns
     (λ c. search needs)
     (λ c. search needs)
     loop-again
-    (λ c. c .before .loop .inv .1 ∙ sym (c .before .before .before .before .before .before .before .before .pre .0 .1))
+    (λ c. c .before .loop .inv .1 ∙ sym (c .before .before .before .before .before .before .before .before .before .pre .0 .2))
     returns-2)

@@ -13,22 +13,22 @@ use Rattle.lazy_routes.proofs.walk.Statement.{statement}
 use Rattle.lazy_routes.proofs.walk.Tie as tie
 
 abbrev Inv-loop : tie.InvT-loop
-Inv-loop blocks runs m key part₀ second last₀ v₀ n₀ part last v n = Going (straights (stored blocks runs)) (firstEnd m) (secondEnd m) key part v n × (length last ≡ 240)
+Inv-loop blocks runs near m key part₀ second last₀ v₀ n₀ part last v n = Going (straights (stored blocks runs)) (firstEnd m) (secondEnd m) key part v n × (length last ≡ 240)
 
 abbrev μ-loop : tie.MeasureT-loop
-μ-loop blocks runs m key part₀ second last₀ v₀ n₀ part last v n = word key v
+μ-loop blocks runs near m key part₀ second last₀ v₀ n₀ part last v n = word key v
 
 loop-holds : tie.Need-loop-holds Inv-loop μ-loop
-loop-holds c = let s = c .before .before .before .before in (going-none (sized _ _ _ (s .pre .0 .fit) (s .pre .1 .0)) (s .pre .1 .1) (s .pre .1 .2), refl)
+loop-holds c = let s = c .before .before .before .before .before in (going-none (sized _ _ _ (s .pre .0 .0 .fit) (s .pre .1 .0)) (s .pre .1 .1) (s .pre .1 .2), refl)
 
 next-hop-requires : tie.Need-next-hop-requires Inv-loop μ-loop
 next-hop-requires c κs =
-    let s = c .before .before .before .before .before .before in
+    let s = c .before .before .before .before .before .before .before in
     let i = c .before .loop .inv in
-    ((s .pre .0, i .1), (i .0 .on .below, omega arith, s .pre .1 .1 .sized))
+    ((s .pre .0 .0, s .pre .0 .1, i .1), (i .0 .on .below, omega arith, s .pre .1 .1 .sized))
 
 same-length : tie.Need-same-length Inv-loop μ-loop
-same-length c = simp length-set (part-length (c .before .before .before .before .loop .inv .0) ∙ sym (cleared-length (c .before .before .before .before .before .before .before .before .before .pre .1 .2)))
+same-length c = simp length-set (part-length (c .before .before .before .before .loop .inv .0) ∙ sym (cleared-length (c .before .before .before .before .before .before .before .before .before .before .pre .1 .2)))
 
 loop-again : tie.Need-loop-again Inv-loop μ-loop
 loop-again c = (going-next (c .before .before .before .before .loop .inv .0) (c .before .before .next-hop .ensures .0) (c .if1 .left), c .before .before .next-hop .ensures .1)
@@ -44,7 +44,7 @@ walk-spec =
     (λ c. search needs)
     (λ c. search needs)
     (λ c. search needs)
-    (λ c. omega (arith, cleared-length (c .before .before .before .before .pre .1 .2)))
+    (λ c. omega (arith, cleared-length (c .before .before .before .before .before .pre .1 .2)))
     loop-holds
     (λ c. search needs)
     next-hop-requires

@@ -8,10 +8,10 @@ use Rattle.redrawing.proofs.pairs_right.Statement.{statement}
 use Rattle.redrawing.proofs.pairs_right.Tie as tie
 
 abbrev Inv-loop : tie.InvT-loop
-Inv-loop blocks runs pairs j₀ j = (j ≤ 240) × RowsRight (stored blocks runs) pairs j
+Inv-loop blocks runs pairs near j₀ j = (j ≤ 240) × RowsRight (stored blocks runs) pairs j
 
 abbrev μ-loop : tie.MeasureT-loop
-μ-loop blocks runs pairs j₀ j = 240 - j
+μ-loop blocks runs pairs near j₀ j = 240 - j
 
 loop-holds : tie.Need-loop-holds Inv-loop μ-loop
 loop-holds c = (omega arith, search rows-right-none)
@@ -31,7 +31,10 @@ pairs-right-spec =
     (tie.spec
     Inv-loop
     μ-loop
+    (λ c. search needs)
+    (λ c κs. search needs)
     loop-holds
+    (λ c. search needs)
     (λ c κs. search needs)
     returns
     (λ c. search needs)

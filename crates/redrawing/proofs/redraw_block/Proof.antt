@@ -9,28 +9,28 @@ use Rattle.redrawing.proofs.redraw_block.Statement.{statement}
 use Rattle.redrawing.proofs.redraw_block.Tie as tie
 
 abbrev Inv-loop : tie.InvT-loop
-Inv-loop blocks runs pairs₀ n start₀ j₀ pairs start j = (start ≡ tri j) × (j ≤ 240) × RowsUpto (stored blocks runs) n pairs₀ pairs j
+Inv-loop blocks runs pairs₀ n near start₀ j₀ pairs start j = (start ≡ tri j) × (j ≤ 240) × RowsUpto (stored blocks runs) n pairs₀ pairs j
 
 abbrev μ-loop : tie.MeasureT-loop
-μ-loop blocks runs pairs₀ n start₀ j₀ pairs start j = 240 - j
+μ-loop blocks runs pairs₀ n near start₀ j₀ pairs start j = 240 - j
 
 loop-holds : tie.Need-loop-holds Inv-loop μ-loop
 loop-holds c = (sym tri-zero, omega arith, search rows-none)
 
 add-redraw-row : tie.Need-add-redraw-row Inv-loop μ-loop
-add-redraw-row c = omega (arith, row-end (c .before .loop .start) (c .before .loop .j) (c .before .loop .inv .0) (omega arith))
+add-redraw-row c = let l = c .before .before .loop in omega (arith, row-end (l .start) (l .j) (l .inv .0) (omega arith))
 
 part-redraw-row-end : tie.Need-part-redraw-row-end Inv-loop μ-loop
-part-redraw-row-end c = omega (arith, row-end (c .before .loop .start) (c .before .loop .j) (c .before .loop .inv .0) (omega arith))
+part-redraw-row-end c = let l = c .before .before .loop in omega (arith, row-end (l .start) (l .j) (l .inv .0) (omega arith))
 
 redraw-row-requires : tie.Need-redraw-row-requires Inv-loop μ-loop
 redraw-row-requires c κs = search (needs, row-lent)
 
 add-start : tie.Need-add-start Inv-loop μ-loop
-add-start c = omega (arith, row-end (c .before .before .before .before .before .loop .start) (c .before .before .before .before .before .loop .j) (c .before .before .before .before .before .loop .inv .0) (omega arith))
+add-start c = let l = c .before .before .before .before .before .before .loop in omega (arith, row-end (l .start) (l .j) (l .inv .0) (omega arith))
 
 loop-again : tie.Need-loop-again Inv-loop μ-loop
-loop-again c = (omega (arith, tri-next (c .before .before .before .before .before .loop .j)), omega arith, search rows-next)
+loop-again c = (omega (arith, tri-next (c .before .before .before .before .before .before .loop .j)), omega arith, search rows-next)
 
 returns : tie.Need-returns Inv-loop μ-loop
 returns c = search rows-all
@@ -41,7 +41,10 @@ redraw-block-spec =
     (tie.spec
     Inv-loop
     μ-loop
+    (λ c. search needs)
+    (λ c κs. search needs)
     loop-holds
+    (λ c. search needs)
     add-redraw-row
     (λ c. omega arith)
     (λ c. search needs)

@@ -8,10 +8,10 @@ use Rattle.redrawing.proofs.renew_column.Statement.{statement}
 use Rattle.redrawing.proofs.renew_column.Tie as tie
 
 abbrev Inv-loop : tie.InvT-loop
-Inv-loop blocks runs pairs₀ k j₀ pairs j = (k < j) × (j ≤ 240) × Renewed (stored blocks runs) (InColumn k j) pairs₀ pairs
+Inv-loop blocks runs near pairs₀ k j₀ pairs j = (k < j) × (j ≤ 240) × Renewed (stored blocks runs) (InColumn k j) pairs₀ pairs
 
 abbrev μ-loop : tie.MeasureT-loop
-μ-loop blocks runs pairs₀ k j₀ pairs j = 240 - j
+μ-loop blocks runs near pairs₀ k j₀ pairs j = 240 - j
 
 loop-holds : tie.Need-loop-holds Inv-loop μ-loop
 loop-holds c = (omega arith, omega arith, search renew-column-none)

@@ -8,10 +8,10 @@ use Rattle.redrawing.proofs.renew_row.Statement.{statement}
 use Rattle.redrawing.proofs.renew_row.Tie as tie
 
 abbrev Inv-loop : tie.InvT-loop
-Inv-loop blocks runs pairs₀ k i₀ pairs i = (i ≤ k) × Renewed (stored blocks runs) (InRow k i) pairs₀ pairs
+Inv-loop blocks runs near pairs₀ k i₀ pairs i = (i ≤ k) × Renewed (stored blocks runs) (InRow k i) pairs₀ pairs
 
 abbrev μ-loop : tie.MeasureT-loop
-μ-loop blocks runs pairs₀ k i₀ pairs i = k - i
+μ-loop blocks runs near pairs₀ k i₀ pairs i = k - i
 
 loop-holds : tie.Need-loop-holds Inv-loop μ-loop
 loop-holds c = (omega arith, search renew-row-none)

@@ -8,10 +8,10 @@ use Rattle.redrawing.proofs.row_right.Statement.{statement}
 use Rattle.redrawing.proofs.row_right.Tie as tie
 
 abbrev Inv-loop : tie.InvT-loop
-Inv-loop blocks runs pairs j i₀ i = (i ≤ j) × RowRight (stored blocks runs) pairs j i
+Inv-loop blocks runs near pairs j i₀ i = (i ≤ j) × RowRight (stored blocks runs) pairs j i
 
 abbrev μ-loop : tie.MeasureT-loop
-μ-loop blocks runs pairs j i₀ i = j - i
+μ-loop blocks runs near pairs j i₀ i = j - i
 
 loop-holds : tie.Need-loop-holds Inv-loop μ-loop
 loop-holds c = (omega arith, search row-right-none)

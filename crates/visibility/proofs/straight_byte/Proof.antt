@@ -1,18 +1,21 @@
-use Rattle.visibility.proofs.Bytes.{straight-small, straight-is}
+use Prim.Native.Nat.{_<_}
+use native.Mathlib.Omega.{arith}
 use borrow.Author.Needs.{needs}
+use Rattle.visibility.proofs.Bytes.{hider-small, straight-hidden, straight-unhidden}
 use Rattle.visibility.proofs.straight_byte.Statement.{statement}
 use Rattle.visibility.proofs.straight_byte.Tie as tie
 
-byte-of-requires : tie.Need-byte-of-requires
-byte-of-requires c κs = search straight-small
-
-returns : tie.Need-returns
-returns c = search straight-is
+cast-result : tie.Need-cast-result
+cast-result c = let h : c .before .n .given .0 .0 < 24 = search hider-small in omega arith
 
 pub straight-byte-spec : {M : Type 1} → statement M
 straight-byte-spec =
     tie.close
     (tie.spec
     (λ c κs. search needs)
-    byte-of-requires
-    returns)
+    (λ c. search needs)
+    cast-result
+    (λ c. search needs)
+    (λ c κs. search straight-unhidden)
+    (λ c. search straight-hidden)
+    (λ c. search needs))

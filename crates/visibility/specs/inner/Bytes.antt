@@ -6,11 +6,12 @@ use Prim.Native.Nat.{ℕ, _<_}
 use Rattle.geometry.specs.Words.{Point}
 use Rattle.geometry.specs.Obstruction.{Hidden}
 use Rattle.tables.specs.Tables.{Records, present, placeOf}
-use Rattle.visibility.specs.Visibility.{Clear}
+use Rattle.visibility.specs.Visibility.{Clear, InSeam}
 
 -- the byte of a straight between present marks at a and b
 pub data StraightIs (blocks : List ℕ) (a b : Point) (byte : ℕ) : Type 0 where
-  unhidden : Clear blocks a b → byte ≡ 254 → StraightIs blocks a b byte
+  visible : Clear blocks a b → byte ≡ 254 → StraightIs blocks a b byte
+  between : InSeam blocks a b → byte ≡ 253 → StraightIs blocks a b byte
   lowest : byte < 24 → Hidden blocks byte a b → ((n : ℕ) → n < byte → Hidden blocks n a b → ⊥) → StraightIs blocks a b byte
 
 -- what a row's loop keeps of its mark j: whether it is present, and its place

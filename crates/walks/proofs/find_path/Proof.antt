@@ -8,13 +8,13 @@ use Rattle.walks.proofs.find_path.Tie as tie
 spot-requires : tie.Need-spot-requires
 spot-requires c κs = let s = c .before .before .before .before .before in let r = s .pre .0 .1 in let e = s .pre .1 .0 .1 in (r .xs-sized, r .ys-sized, in-grid _ _ _ _ r _ e)
 
-is-clear-requires : tie.Need-is-clear-requires
-is-clear-requires c κs = let s = c .before .before .before .before .before .before in let r = s .pre .0 .1 in let e = s .pre .1 .0 .1 in
+is-clear-place-requires : tie.Need-is-clear-place-requires
+is-clear-place-requires c κs = let s = c .before .before .before .before .before .before in let r = s .pre .0 .1 in let e = s .pre .1 .0 .1 in
     let n = spot-in-range _ _ _ _ r _ _ (crossing-east _ _ _ _ r _ e) (crossing-north _ _ _ _ r _ e) (c .spot .ensures) in
-    (s .pre .0 .0, n, n)
+    (s .pre .0 .0, n)
 
 returns : tie.Need-returns
-returns c = let s = c .before .before .before .before .before .before .before .before in let r = s .pre .0 .1 in let e = s .pre .1 .0 .1 in not-clear _ _ _ _ _ r e (c .before .before .spot .ensures) (c .before .is-clear .ensures) (c .if1 .taken) (s .pre .1 .1 .0) (s .pre .1 .1 .1)
+returns c = let s = c .before .before .before .before .before .before .before .before in let r = s .pre .0 .1 in let e = s .pre .1 .0 .1 in not-clear _ _ _ _ _ r e (c .before .before .spot .ensures) (c .before .is-clear-place .ensures) (c .if1 .taken) (s .pre .1 .1 .0) (s .pre .1 .1 .1)
 
 open-keys-requires : tie.Need-open-keys-requires
 open-keys-requires c κs = let s = c .before .before .before .before .before .before .before .before .before .before .before .before .before in let r = s .pre .0 .1 in let e = s .pre .1 .0 .1 in (in-grid _ _ _ _ r _ e, search needs, s .pre .1 .1 .0)
@@ -23,7 +23,7 @@ search-requires : tie.Need-search-requires
 search-requires c κs = let s = c .before .before .before .before .before .before .before .before .before .before .before .before .before .before .before .before .before .before .before .before in let r = s .pre .0 .1 in let e = s .pre .1 .0 .1 in (
   (r, c .before .before .before .before .before .before .before .before .before .before .chart .ensures),
   fair-start (c .before .before .before .before .before .before .open-keys .ensures) (in-grid _ _ _ _ r _ e)
-      (end-stop _ _ _ _ _ r e (c .before .before .before .before .before .before .before .before .before .before .before .before .before .before .spot .ensures) (c .before .before .before .before .before .before .before .before .before .before .before .before .before .is-clear .ensures) (c .before .before .before .before .before .before .before .before .before .before .before .before .if1 .left)),
+      (end-stop _ _ _ _ _ r e (c .before .before .before .before .before .before .before .before .before .before .before .before .before .before .spot .ensures) (c .before .before .before .before .before .before .before .before .before .before .before .before .before .is-clear-place .ensures) (c .before .before .before .before .before .before .before .before .before .before .before .before .if1 .left)),
 )
 
 label-requires : tie.Need-label-requires
@@ -47,7 +47,7 @@ find-path-spec =
     tie.close
     (tie.spec
     spot-requires
-    is-clear-requires
+    is-clear-place-requires
     returns
     (λ c. search needs)
     (λ c κs. search needs)
