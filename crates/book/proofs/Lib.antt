@@ -10,4 +10,5 @@ pub mod Checks
 pub mod Exists
 pub mod Outcomes
 pub mod Bare
+pub mod Seams
 pub mod Afternoon
