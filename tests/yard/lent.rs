@@ -263,7 +263,7 @@ fn changed_records<L: Lists>(report: &mut Report) {
         });
     }
     report.case(&format!("{}, every number often enough", L::NAME), |_| {
-        let few = L::NUMBERS.iter().any(|&n| numbers[n] < 15) || numbers[2] < 400;
+        let few = L::NUMBERS.iter().any(|&n| numbers[n] < 20) || numbers[2] < 400;
         if few { Err(format!("{numbers:?}")) } else { Ok(()) }
     });
 }
