@@ -2,7 +2,7 @@
 //! request says and compared whole. One way goes along every path that does not meet itself, for yards of few lines;
 //! the other extends paths from the first end, the least first.
 
-use crate::reference::{hides, hides_by_cutting, Book, Place};
+use crate::reference::{clear, clear_by_cutting, Book, Place};
 use std::cmp::Reverse;
 use std::collections::{BTreeSet, BinaryHeap, HashSet};
 
@@ -60,7 +60,7 @@ impl Lines<'_> {
     }
 
     fn clear(&self, a: Place, b: Place) -> bool {
-        !self.book.blocks.iter().any(|corners| hides(corners, a, b))
+        clear(&self.book.blocks, a, b)
     }
 
     /// The least path, by taking the least of all paths that wait to be extended. Of the paths that reach a crossing
@@ -135,7 +135,7 @@ impl Every<'_> {
 
 impl Lines<'_> {
     fn clear_by_cutting(&self, a: Place, b: Place) -> bool {
-        !self.book.blocks.iter().any(|corners| hides_by_cutting(corners, a, b))
+        clear_by_cutting(&self.book.blocks, a, b)
     }
 
     fn clear_steps(&self) -> HashSet<(Place, Place)> {

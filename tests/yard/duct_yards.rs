@@ -22,8 +22,8 @@ pub struct Kind {
     pub pairs: usize,
 }
 
-pub const SMALL: Kind = Kind { name: "touching", span: 5, size: 3, step: 1, from: 0, least: 0, blocks: 8, bars: 20, pairs: 1 };
-pub const MAZE: Kind = Kind { name: "maze", span: 8, step: 25, least: 5, bars: 100, pairs: 5, ..SMALL };
+pub const SMALL: Kind = Kind { name: "touching", span: 5, size: 3, step: 1, from: 0, least: 0, blocks: 8, bars: 20, pairs: 2 };
+pub const MAZE: Kind = Kind { name: "maze", span: 8, step: 25, least: 5, bars: 100, pairs: 8, ..SMALL };
 /// Few enough lines to go along every path.
 pub const SMALL_KINDS: [Kind; 12] = [
     SMALL,
@@ -153,7 +153,7 @@ fn middle(corners: &[Place]) -> Place {
 }
 
 /// A box with each of its corners cut off by a slope of its own: eight corners.
-fn cut_box(r: &mut Random, span: i64, size: i64) -> Vec<Place> {
+pub fn cut_box(r: &mut Random, span: i64, size: i64) -> Vec<Place> {
     let (wide, tall) = (r.between(3, size), r.between(3, size));
     let (w, s) = (r.between(0, span - wide), r.between(0, span - tall));
     // where two neighbouring cuts leave the side between them

@@ -1,5 +1,6 @@
 //! A second planner, unrelated to the proved one: its own book, a fresh drawing each time, hiding by separating
-//! lines, roots by bisection, routes by correcting labels that carry their whole list of marks from the first end.
+//! lines, seams by points that are tried, roots by bisection, routes by correcting labels that carry their whole list of
+//! marks from the first end.
 
 use crate::tables::{pair_index, Edit, Tables, BLOCKS, PAIRS, ROUTES, RUNS};
 use std::collections::VecDeque;
@@ -55,6 +56,82 @@ pub fn hides_by_cutting(corners: &[Place], a: Place, b: Place) -> bool {
     }
     let (l, h) = (low.0 * high.1, high.0 * low.1);
     !corners.is_empty() && (l < h || (l == h && !low_open && !high_open))
+}
+
+/// Whether a straight has a point in a block, sides and corners included: no line parallel to a side, nor the straight's
+/// own line, keeps them apart. Lines from south to north and from west to east are tried first.
+pub fn touches(corners: &[Place], a: Place, b: Place) -> bool {
+    let apart = |of: fn(&Place) -> i64| {
+        let (low, high) = (of(&a).min(of(&b)), of(&a).max(of(&b)));
+        corners.iter().all(|c| of(c) < low) || corners.iter().all(|c| of(c) > high)
+    };
+    if apart(|c| c.0) || apart(|c| c.1) {
+        return false;
+    }
+    let count = corners.len();
+    for k in 0..count {
+        let (p, q) = (corners[k], corners[(k + 1) % count]);
+        if cross(p, q, a) < 0 && cross(p, q, b) < 0 {
+            return false;
+        }
+    }
+    let left = corners.iter().any(|&c| cross(a, b, c) >= 0);
+    let right = corners.iter().any(|&c| cross(a, b, c) <= 0);
+    left && right
+}
+
+/// The turns of both ends of a straight against each side of a block.
+fn turns(corners: &[Place], a: Place, b: Place) -> Vec<(i128, i128)> {
+    let next = corners.iter().cycle().skip(1);
+    corners.iter().zip(next).map(|(&p, &q)| (cross(p, q, a).into(), cross(p, q, b).into())).collect()
+}
+
+/// Whether the point that is the fraction x / w of the way along a straight belongs to a block.
+fn holds(sides: &[(i128, i128)], x: i128, w: i128) -> bool {
+    sides.iter().all(|&(from, to)| (w - x) * from + x * to >= 0)
+}
+
+/// In a seam: some point of the straight belongs to two of the blocks. What two of them have of it in common is a part
+/// with both its ends, so it is enough to try the straight's own ends and the points where it crosses the line of a side.
+pub fn in_seam(blocks: &[Vec<Place>], a: Place, b: Place) -> bool {
+    let near = blocks.iter().filter(|corners| touches(corners, a, b));
+    let near: Vec<_> = near.map(|corners| turns(corners, a, b)).collect();
+    let twice = |x: i128, w: i128| near.iter().filter(|sides| holds(sides, x, w)).nth(1).is_some();
+    let mut crossed = near.iter().flatten().filter(|&&(from, to)| (from < 0) != (to < 0));
+    near.len() > 1 && (twice(0, 1) || twice(1, 1) || crossed.any(|(from, to)| twice(from.abs(), (from - to).abs())))
+}
+
+/// The part of a straight in a block, sides and corners included, as two fractions of the way along it.
+fn part_by_cutting(corners: &[Place], a: Place, b: Place) -> Option<[(i128, i128); 2]> {
+    let (mut low, mut high) = ((0, 1), (1, 1));
+    for (from, to) in turns(corners, a, b) {
+        let slope = to - from;
+        if slope == 0 && from < 0 {
+            return None;
+        } else if slope > 0 && -from * low.1 > low.0 * slope {
+            low = (-from, slope);
+        } else if slope < 0 && from * high.1 < high.0 * -slope {
+            high = (from, -slope);
+        }
+    }
+    (!corners.is_empty() && low.0 * high.1 <= high.0 * low.1).then_some([low, high])
+}
+
+/// In a seam, a third way: cut out the part of the straight in each block, and compare the parts two by two.
+pub fn in_seam_by_cutting(blocks: &[Vec<Place>], a: Place, b: Place) -> bool {
+    let parts: Vec<_> = blocks.iter().filter_map(|corners| part_by_cutting(corners, a, b)).collect();
+    let before = |end: (i128, i128), start: (i128, i128)| end.0 * start.1 < start.0 * end.1;
+    let meet = |one: &[(i128, i128); 2], other: &[(i128, i128); 2]| !before(one[1], other[0]) && !before(other[1], one[0]);
+    (0..parts.len()).any(|k| parts[..k].iter().any(|other| meet(&parts[k], other)))
+}
+
+/// Clear: no block hides the straight, and it is in no seam.
+pub fn clear(blocks: &[Vec<Place>], a: Place, b: Place) -> bool {
+    !blocks.iter().any(|corners| hides(corners, a, b)) && !in_seam(blocks, a, b)
+}
+
+pub fn clear_by_cutting(blocks: &[Vec<Place>], a: Place, b: Place) -> bool {
+    !blocks.iter().any(|corners| hides_by_cutting(corners, a, b)) && !in_seam_by_cutting(blocks, a, b)
 }
 
 /// The smallest whole w with w x w at least the sum of the squared differences.
@@ -158,10 +235,18 @@ impl Book {
         corners.chain(ends).collect()
     }
 
-    fn byte(&self, a: Option<Place>, b: Option<Place>) -> u8 {
+    /// The byte of a pair under the rule from before seams were hidden.
+    fn byte_before_seams(&self, a: Option<Place>, b: Option<Place>) -> u8 {
         match (a, b) {
             (Some(a), Some(b)) => self.blocks.iter().position(|c| hides(c, a, b)).map_or(254, |n| n as u8),
             _ => 255,
+        }
+    }
+
+    fn byte(&self, a: Option<Place>, b: Option<Place>) -> u8 {
+        match (self.byte_before_seams(a, b), a, b) {
+            (254, Some(a), Some(b)) if in_seam(&self.blocks, a, b) => 253,
+            (byte, _, _) => byte,
         }
     }
 
@@ -186,12 +271,21 @@ impl Book {
 
     /// The fresh drawing.
     pub fn drawing(&self) -> Tables {
+        self.drawing_with(Book::byte)
+    }
+
+    /// As it was drawn before seams were hidden.
+    pub fn drawing_before_seams(&self) -> Tables {
+        self.drawing_with(Book::byte_before_seams)
+    }
+
+    fn drawing_with(&self, byte: impl Fn(&Book, Option<Place>, Option<Place>) -> u8) -> Tables {
         let mut t = Tables { blocks: vec![0; BLOCKS], runs: vec![0; RUNS], pairs: vec![255; PAIRS], routes: vec![0; ROUTES] };
         self.write_records(&mut t);
         let marks = self.marks();
         for j in 0..240 {
             for i in 0..j {
-                t.pairs[pair_index(i, j)] = self.byte(marks[i], marks[j]);
+                t.pairs[pair_index(i, j)] = byte(self, marks[i], marks[j]);
             }
         }
         self.write_routes(&mut t);
@@ -310,7 +404,7 @@ pub fn edited(t: &Tables, e: &Edit) -> (u32, Tables) {
     (answer, after)
 }
 
-/// How an accepted edit treats pairs, in tables right or wrong: docs/RULES.md, "Start and the edits".
+/// How an accepted edit treats pairs, in tables right or wrong: docs/RULES.md, "The calls and their questions".
 fn treat_pairs(book: &Book, e: &Edit, pairs: &mut [u8]) {
     let marks = book.marks();
     let (own, block) = match e {
@@ -320,7 +414,8 @@ fn treat_pairs(book: &Book, e: &Edit, pairs: &mut [u8]) {
     for j in 0..240 {
         for i in 0..j {
             let byte = &mut pairs[pair_index(i, j)];
-            if own.contains(&i) || own.contains(&j) || block == Some(*byte) {
+            let afresh = |n: u8| *byte == n || *byte == 253 || *byte == 254;
+            if own.contains(&i) || own.contains(&j) || block.is_some_and(afresh) {
                 *byte = book.byte(marks[i], marks[j]);
             } else if let (Some(n), Some(a), Some(b)) = (block, marks[i], marks[j]) {
                 if *byte > n && hides(&book.blocks[n as usize], a, b) {

@@ -33,6 +33,7 @@ fn same<T: PartialEq + std::fmt::Debug>(got: T, right: T) -> Result<(), String> 
 }
 
 const CLEAR: u8 = 254;
+const SEAM: u8 = 253;
 
 pub fn trial_yards(p: &impl Planner, report: &mut Report) {
     let straights: [([u16; 4], u8); 7] = [
@@ -71,12 +72,31 @@ pub fn trial_yards(p: &impl Planner, report: &mut Report) {
             same(&t.routes[..197], &[&[2][..], &[0; 196]].concat()[..])
         });
     }
-    report.case("a straight in the seam of two blocks", |calls| {
-        let beside = Edit::AddBlock(1, vec![20, 10, 30, 10, 30, 20, 20, 20]);
-        let t = yard(p, &[square(0), beside, run([20, 0, 20, 30])], calls)?;
-        same(t.pair(192, 193), CLEAR)?;
-        same(t.route(0), (1, 30, &[192, 193][..]))
-    });
+    let beside = || Edit::AddBlock(1, vec![20, 10, 30, 10, 30, 20, 20, 20]);
+    for edits in [[square(0), beside(), run([20, 0, 20, 30])], [run([20, 0, 20, 30]), beside(), square(0)]] {
+        report.case("a straight in the seam of two blocks", |calls| {
+            let t = yard(p, &edits, calls)?;
+            same(t.pair(192, 193), SEAM)?;
+            same(t.route(0), (1, 40, &[192, 0, 3, 193][..]))
+        });
+    }
+    for ends in [[20, 15, 40, 15], [0, 0, 20, 15], [20, 15, 20, 15], [20, 10, 20, 0], [0, 10, 20, 20]] {
+        report.case(&format!("an end on a seam, {ends:?}"), |calls| {
+            let t = yard(p, &[square(0), beside(), run(ends)], calls)?;
+            same(&t.routes[..197], &[&[2][..], &[0; 196]].concat()[..])
+        });
+    }
+    let sharing = [
+        ("a corner", vec![20, 20, 30, 20, 30, 30, 20, 30], [10, 30, 30, 10]),
+        ("every place, equal", vec![10, 10, 20, 10, 20, 20, 10, 20], [0, 10, 30, 10]),
+        ("part of a side, one inside the other", vec![12, 10, 18, 10, 15, 15], [0, 10, 30, 10]),
+    ];
+    for (what, corners, ends) in sharing {
+        report.case(&format!("S and a block that share {what}"), |calls| {
+            let t = yard(p, &[square(0), Edit::AddBlock(1, corners.clone()), run(ends)], calls)?;
+            same(t.pair(192, 193), SEAM)
+        });
+    }
     report.case("the listed yard", |calls| {
         let mut edits = vec![Edit::AddBlock(0, vec![10, 6, 14, 7, 14, 40, 10, 40]), run([0, 10, 27, 13])];
         same(yard(p, &edits, calls)?.route(0), (1, 31, &[192, 0, 1, 193][..]))?;
@@ -187,11 +207,11 @@ pub fn shortcuts(p: &impl Planner, report: &mut Report) {
         same(yard(p, &edits, calls)?.route(0), (1, 34, &[192, 0, 1, 193][..]))
     });
     report.case("after a removal an equal route wins the tie by fewer straights", |calls| {
-        // The straight is 11 long, and so is the way over (5,1), a corner of both blocks.
+        // The straight is 11 long, and so are the ways over (5,1) and over (7,1), a corner of the block that bars it.
         let mut edits = vec![
             Edit::AddBlock(0, vec![5, 1, 6, 3, 4, 3]),
             run([0, 0, 10, 1]),
-            Edit::AddBlock(1, vec![5, 0, 6, 0, 5, 1]),
+            Edit::AddBlock(1, vec![6, 0, 8, 0, 7, 1]),
         ];
         same(yard(p, &edits, calls)?.route(0), (1, 11, &[192, 0, 193][..]))?;
         edits.push(Edit::RemoveBlock(1));
