@@ -77,17 +77,83 @@ fn hides(block: &[u16], a: Place, b: Place) -> bool {
     enter.0 > 0 || leave.1 > 0 || enter.0 * leave.1 < leave.0 * enter.1
 }
 
+/// The sides that bound what is left of a straight, each by the turns of both ends: the tightest of those that the first
+/// end is right of, and of those that the second is right of.
+#[derive(Clone, Copy)]
+struct Span {
+    low: (i64, i64),
+    up: (i64, i64),
+}
+
+const WHOLE: Span = Span { low: (1, 1), up: (1, 1) };
+
+/// For each block, whether its enclosing rectangle has a point in common with that of another.
+type Near = [bool; 24];
+
+/// Whether every corner of the second block lies beyond every corner of the first, word i of it.
+fn beyond(first: &[u16], second: &[u16], i: usize) -> bool {
+    let furthest = (0..first[0] as usize).map(|k| first[2 * k + i]).max();
+    furthest.is_some_and(|f| !any(second, i, |w| w <= f))
+}
+
+fn near(blocks: &[u16]) -> Near {
+    std::array::from_fn(|n| {
+        let block = block_words(blocks, n);
+        let others = (0..24).filter(|&m| m != n).map(|m| block_words(blocks, m)).filter(|other| other[0] != 0);
+        block[0] != 0 && others.into_iter().any(|other| (1..3).all(|i| !beyond(block, other, i) && !beyond(other, block, i)))
+    })
+}
+
+/// What of a straight from a to b, between the sides kept before, belongs to a block, sides and corners included.
+fn reach(block: &[u16], mut kept: Span, a: Place, b: Place) -> Option<Span> {
+    let count = block[0] as usize;
+    if count == 0 {
+        return None;
+    }
+    let mut p = corner(block, count - 1);
+    for k in 0..count {
+        let q = corner(block, k);
+        let (from, to) = (turn(p, q, a), turn(p, q, b));
+        p = q;
+        if from < 0 {
+            if to < 0 {
+                return None;
+            }
+            if from * kept.low.1 < kept.low.0 * to {
+                kept.low = (from, to);
+            }
+        } else if to < 0 && to * kept.up.0 < kept.up.1 * from {
+            kept.up = (from, to);
+        }
+    }
+    let apart = kept.low.0 < 0 && kept.up.1 < 0 && kept.up.0 * kept.low.1 < kept.low.0 * kept.up.1;
+    (!apart).then_some(kept)
+}
+
+/// Whether some point of the straight from a to b belongs to two blocks.
+fn shared(blocks: &[u16], near: &Near, a: Place, b: Place) -> bool {
+    (0..24).filter(|&n| near[n]).any(|n| {
+        let first = reach(block_words(blocks, n), WHOLE, a, b);
+        first.is_some_and(|kept| (n + 1..24).any(|m| reach(block_words(blocks, m), kept, a, b).is_some()))
+    })
+}
+
 fn block_words(blocks: &[u16], n: usize) -> &[u16] {
     &blocks[17 * n..17 * n + 17]
 }
 
-fn lowest_hider(blocks: &[u16], a: Place, b: Place) -> u8 {
+/// The lowest block that hides the straight from a to b; else 253 if a point of it belongs to two, and 254 if none does.
+fn sight(blocks: &[u16], near: &Near, a: Place, b: Place) -> u8 {
     for n in 0..24 {
         if hides(block_words(blocks, n), a, b) {
             return n as u8;
         }
     }
-    254
+    if shared(blocks, near, a, b) {
+        253
+    } else {
+        254
+    }
 }
 
 fn squares(a: Place, b: Place) -> u32 {
@@ -142,16 +208,16 @@ fn place(blocks: &[u16], runs: &[u16], mark: usize) -> Place {
     (table[at], table[at + 1])
 }
 
-fn fresh_byte(blocks: &[u16], runs: &[u16], i: usize, j: usize) -> u8 {
-    byte_with(blocks, runs, i, present(blocks, runs, j), place(blocks, runs, j))
+fn fresh_byte(blocks: &[u16], runs: &[u16], near: &Near, i: usize, j: usize) -> u8 {
+    byte_with(blocks, runs, near, i, present(blocks, runs, j), place(blocks, runs, j))
 }
 
 /// The byte of mark i and another mark, of which presence and place are known.
-fn byte_with(blocks: &[u16], runs: &[u16], i: usize, there: bool, b: Place) -> u8 {
+fn byte_with(blocks: &[u16], runs: &[u16], near: &Near, i: usize, there: bool, b: Place) -> u8 {
     if !there || !present(blocks, runs, i) {
         return 255;
     }
-    lowest_hider(blocks, place(blocks, runs, i), b)
+    sight(blocks, near, place(blocks, runs, i), b)
 }
 
 fn block_allowed(words: &[u16]) -> bool {
@@ -333,9 +399,10 @@ impl Yard<'_> {
         if !self.question_2() {
             return 2;
         }
+        let near = near(self.blocks);
         for j in 1..240 {
             for i in 0..j {
-                if self.pairs[pair_index(i, j)] != fresh_byte(self.blocks, self.runs, i, j) {
+                if self.pairs[pair_index(i, j)] != fresh_byte(self.blocks, self.runs, &near, i, j) {
                     return 11;
                 }
             }
@@ -360,10 +427,11 @@ impl Yard<'_> {
 
     fn write_run(&mut self, m: usize, words: [u16; 5]) -> u32 {
         self.runs[5 * m..5 * m + 5].copy_from_slice(&words);
+        let near = near(self.blocks);
         for k in [192 + 2 * m, 193 + 2 * m] {
             for other in 0..240 {
                 if other != k {
-                    self.pairs[pair_index(k, other)] = fresh_byte(self.blocks, self.runs, k, other);
+                    self.pairs[pair_index(k, other)] = fresh_byte(self.blocks, self.runs, &near, k, other);
                 }
             }
         }
@@ -374,15 +442,15 @@ impl Yard<'_> {
     #[inline(never)]
     fn redraw_after_block(&mut self, n: usize) {
         let (blocks, runs) = (&*self.blocks, &*self.runs);
-        let block = block_words(blocks, n);
+        let (near, block) = (near(blocks), block_words(blocks, n));
         for j in 1..240 {
             let there = present(blocks, runs, j);
             let b = place(blocks, runs, j);
             let row = &mut self.pairs[j * (j - 1) / 2..j * (j - 1) / 2 + j];
             for i in 0..j {
                 let old = row[i];
-                if i / 8 == n || j / 8 == n || old as usize == n {
-                    row[i] = byte_with(blocks, runs, i, there, b);
+                if i / 8 == n || j / 8 == n || old as usize == n || old == 253 || old == 254 {
+                    row[i] = byte_with(blocks, runs, &near, i, there, b);
                 } else if there && old as usize > n && present(blocks, runs, i) && hides(block, place(blocks, runs, i), b) {
                     row[i] = n as u8;
                 }
@@ -392,9 +460,10 @@ impl Yard<'_> {
 
     #[inline(never)]
     fn redraw_all_pairs(&mut self) {
+        let near = near(self.blocks);
         for j in 1..240 {
             for i in 0..j {
-                self.pairs[pair_index(i, j)] = fresh_byte(self.blocks, self.runs, i, j);
+                self.pairs[pair_index(i, j)] = fresh_byte(self.blocks, self.runs, &near, i, j);
             }
         }
     }
