@@ -12,7 +12,7 @@ const LARGEST: i64 = 32767;
 /// How a lattice lies in the yard: so far apart east and north, the last line of each at the largest coordinate or at its
 /// own number.
 #[derive(Clone, Copy)]
-struct Stretch {
+pub struct Stretch {
     east: i64,
     north: i64,
     span: i64,
@@ -20,7 +20,7 @@ struct Stretch {
 }
 
 impl Stretch {
-    fn all(span: i64) -> [Stretch; 6] {
+    pub fn all(span: i64) -> [Stretch; 6] {
         let most = LARGEST / span;
         let stretch = |east, north, far| Stretch { east, north, span, far };
         [
@@ -46,7 +46,7 @@ impl Stretch {
         words.iter().enumerate().map(one).collect()
     }
 
-    fn edit(&self, e: &Edit) -> Edit {
+    pub fn edit(&self, e: &Edit) -> Edit {
         let ends = |ends: &[u16; 4]| -> [u16; 4] { std::array::from_fn(|k| self.words(ends)[k]) };
         let step = |by: i64, d: i16| (by * i64::from(d)).clamp(i16::MIN.into(), i16::MAX.into()) as i16;
         match e {
@@ -70,13 +70,13 @@ fn off(r: &mut Random, e: Edit) -> Edit {
     }
 }
 
-fn moved(corners: &[Place], by: Place) -> Vec<Place> {
+pub fn moved(corners: &[Place], by: Place) -> Vec<Place> {
     corners.iter().map(|c| (c.0 + by.0, c.1 + by.1)).collect()
 }
 
 /// A block that has to do with another: equal to it from another corner on, beside it along a side's line, mirrored at its
 /// easternmost or northernmost line, inside it, or across it.
-fn relative(r: &mut Random, of: &[Place]) -> Vec<Place> {
+pub fn relative(r: &mut Random, of: &[Place]) -> Vec<Place> {
     let (k, count) = (r.below(of.len()), of.len());
     let (p, q) = (of[k], of[(k + 1) % count]);
     match r.below(6) {
@@ -96,12 +96,12 @@ fn relative(r: &mut Random, of: &[Place]) -> Vec<Place> {
     }
 }
 
-fn on_lattice(corners: &[Place], span: i64) -> bool {
+pub fn on_lattice(corners: &[Place], span: i64) -> bool {
     corners.iter().all(|c| (0..=span).contains(&c.0) && (0..=span).contains(&c.1))
 }
 
 /// A place that has to do with a block: a corner, past one on a side's line, or near the block.
-fn end(r: &mut Random, corners: &[Place], span: i64) -> Place {
+pub fn end(r: &mut Random, corners: &[Place], span: i64) -> Place {
     let k = r.below(corners.len());
     let (p, q) = (corners[k], corners[(k + 1) % corners.len()]);
     let place = match r.below(4) {
@@ -113,7 +113,7 @@ fn end(r: &mut Random, corners: &[Place], span: i64) -> Place {
     (place.0.clamp(0, span), place.1.clamp(0, span))
 }
 
-fn words(places: &[Place]) -> Vec<u16> {
+pub fn words(places: &[Place]) -> Vec<u16> {
     places.iter().flat_map(|c| [c.0 as u16, c.1 as u16]).collect()
 }
 

@@ -232,14 +232,18 @@ fn known(report: &mut Report) {
         ("S, from side to side", vec![square()], [(0, 15), (30, 15)], Some((90, vec![0, 15, 0, 10, 10, 10, 20, 10, 30, 10, 30, 15]))),
         ("S, along its side", vec![square()], [(0, 10), (30, 10)], Some((30, vec![0, 10, 10, 10, 20, 10, 30, 10]))),
         ("S, from corner to corner", vec![square()], [(10, 10), (20, 20)], Some((45, vec![10, 10, 10, 20, 20, 20]))),
-        ("the seam", vec![square(), beside()], [(20, 0), (20, 30)], Some((30, vec![20, 0, 20, 10, 20, 20, 20, 30]))),
+        ("round the seam", vec![square(), beside()], [(20, 0), (20, 30)], Some((100, vec![20, 0, 10, 0, 10, 10, 10, 20, 10, 30, 20, 30]))),
+        ("past the seam's end", vec![square(), beside()], [(0, 10), (40, 10)], None),
+        ("an end on the seam", vec![square(), beside()], [(0, 0), (20, 15)], None),
+        ("the other end on the seam", vec![square(), beside()], [(20, 10), (0, 0)], None),
         ("an end inside", vec![square()], [(0, 15), (15, 15)], None),
         ("the other end inside", vec![square()], [(15, 15), (0, 15)], None),
         ("one place outside", vec![square()], [(0, 15), (0, 15)], Some((0, vec![0, 15]))),
         ("one place on a side", vec![square()], [(10, 15), (10, 15)], Some((0, vec![10, 15]))),
         ("one place at a corner", vec![square()], [(20, 20), (20, 20)], Some((0, vec![20, 20]))),
         ("one place inside", vec![square()], [(15, 15), (15, 15)], None),
-        ("one place inside on the seam of two", vec![square(), beside()], [(20, 15), (20, 15)], Some((0, vec![20, 15]))),
+        ("one place on the seam of two", vec![square(), beside()], [(20, 15), (20, 15)], None),
+        ("one place where two corners meet", vec![square(), vec![(20, 20), (30, 20), (30, 30), (20, 30)]], [(20, 20), (20, 20)], None),
         ("0 and 32,767", vec![], [(0, 0), (32767, 32767)], Some((65559, vec![0, 0, 0, 32767, 32767, 32767]))),
         // 80 + 10 + 20 + 15 and four bends, or 80 + 2 x 50 - 5 and two
         ("as much with fewer bends", bars(150), [(0, 100), (80, 105)], Some((225, vec![0, 100, 0, 105, 0, 110, 0, 150, 20, 150, 30, 150, 50, 150, 60, 150, 80, 150, 80, 110, 80, 105]))),
@@ -275,6 +279,17 @@ fn too_many_blocks(report: &mut Report) {
         }
         Ok(())
     });
+}
+
+/// The duct of every run that stands: whether each has a way.
+pub fn every_run(r: &mut Random, book: &Book, calls: &mut usize) -> Result<Vec<bool>, String> {
+    let runs = (0..24).filter(|&run| !book.runs[run].is_empty());
+    runs.map(|run| {
+        *calls += 1;
+        compared::<Duct>(r, book, run)?;
+        Ok(Lines::new(book, &book.runs[run]).least().is_some())
+    })
+    .collect()
 }
 
 /// A random yard of a random kind.

@@ -37,6 +37,7 @@ mod rectangles;
 mod reference;
 #[cfg(not(plain))]
 mod replaying;
+mod seams;
 #[path = "../../bindings/tables.rs"]
 mod tables;
 mod trials;
@@ -495,6 +496,7 @@ fn main() {
     trials::shortcuts(&p, &mut report);
     report.end_group("shortcuts");
     own_parts(&mut report);
+    seams::own_parts(&mut report);
     report.end_group("the second planner's parts");
     rectangles::edges(&p, &mut report);
     report.end_group("edges of rectangles");
@@ -504,6 +506,8 @@ fn main() {
     report.end_group("random lists, full yards");
     degenerate::degenerate(&p, &mut report);
     report.end_group("degenerate yards, small and stretched");
+    seams::seams(&p, &mut report);
+    report.end_group("seams");
     spoiled_tables(&p, &mut report);
     longest_routes(&p, &mut report);
     report.end_group("spoiled pairs and routes");

@@ -372,6 +372,7 @@ fn kinds_of_pairs(t: &Tables, run: usize) -> Kinds {
     vec![
         ("a pair of absent marks", with(&|byte| byte == 255)),
         ("a hidden pair", with(&|byte| byte < 24)),
+        ("a pair in a seam", with(&|byte| byte == 253)),
         ("a clear pair that no route has", unused),
         ("a straight of the route", own),
         ("a straight of another route", others),
@@ -425,13 +426,16 @@ fn refused(r: &mut Random, t: &Tables, rows: &[(u32, u32)], calls: &mut usize) -
 fn wrong_tables(report: &mut Report) {
     let mut met: BTreeMap<&str, usize> = BTreeMap::new();
     for (k, s) in STYLES.iter().chain(&FULL).enumerate() {
-        for seed in 0..if s.blocks == 24 { 1 } else { 3 } {
+        for seed in 0..if s.blocks == 24 { 1 } else { 8 } {
             report.case(&format!("pieces over one wrong entry, {}, seed {seed}", s.name), |calls| {
                 let mut r = Random::new(9_400_000 + 100 * k as u64 + seed);
                 let (mut book, _) = random_yard(&mut r, s, 60);
                 let free = r.below(24);
                 book.runs[free].clear();
                 let runs: Vec<usize> = (0..24).filter(|&m| !book.runs[m].is_empty()).collect();
+                if runs.is_empty() {
+                    return Ok(());
+                }
                 let (run, right) = (runs[r.below(runs.len())], book.drawing());
                 for (name, mut t) in spoiled(&mut r, &right, run) {
                     *met.entry(name).or_default() += 1;
@@ -445,16 +449,20 @@ fn wrong_tables(report: &mut Report) {
         }
     }
     report.case("wrong entries of every kind often enough", |_| {
-        if met.len() == 16 && met.values().all(|&n| n >= 20) { Ok(()) } else { Err(format!("{met:?}")) }
+        if met.len() == 17 && met.values().all(|&n| n >= 20) { Ok(()) } else { Err(format!("{met:?}")) }
     });
+}
+
+/// Every piece of every run of a yard.
+pub fn every_run(r: &mut Random, book: &Book, calls: &mut usize) -> Result<(), String> {
+    Yard::new(book).every_run(r, 2, calls)
 }
 
 /// A random yard of any kind.
 pub fn one(r: &mut Random, calls: &mut usize) -> Result<(), String> {
     let s = random::any_style(r);
     let edits = if r.percent(30) { degenerate::edits(r) } else { random::list(r, &s, 60) };
-    let book = after(&edits);
-    Yard::new(&book).every_run(r, 2, calls)
+    every_run(r, &after(&edits), calls)
 }
 
 pub fn pieces(report: &mut Report) {

@@ -60,7 +60,7 @@ fn stored(t: &Tables, run: usize) -> &[u32] {
 }
 
 /// The quote of every run against the records that tables hold, those of absent runs refused.
-fn as_stored(r: &mut Random, t: &Tables, calls: &mut usize) -> Result<(), String> {
+pub fn as_stored(r: &mut Random, t: &Tables, calls: &mut usize) -> Result<(), String> {
     for run in 0..24 {
         let mut route = Route::filled(r);
         let (number, due) = if stored(t, run)[0] == 0 { (5, route.clone()) } else { (0, Route(stored(t, run).to_vec())) };
@@ -214,16 +214,20 @@ fn known(report: &mut Report) {
         ("S, one place inside", vec![square()], [(15, 15), (15, 15)], None),
         ("S, one place on a side", vec![square()], [(10, 15), (10, 15)], Some((0, &[]))),
         ("S, one place at a corner", vec![square()], [(20, 20), (20, 20)], Some((0, &[]))),
-        ("the seam", vec![square(), beside()], [(20, 0), (20, 30)], Some((30, &[]))),
-        ("one place on the seam", vec![square(), beside()], [(20, 15), (20, 15)], Some((0, &[]))),
-        ("S twice", vec![square(), square()], [(0, 15), (30, 15)], Some((34, &[0, 1]))),
+        ("the seam", vec![square(), beside()], [(20, 0), (20, 30)], Some((40, &[0, 3]))),
+        ("past the seam's end", vec![square(), beside()], [(0, 10), (40, 10)], None),
+        ("one place on the seam", vec![square(), beside()], [(20, 15), (20, 15)], None),
+        ("one place at the seam's end", vec![square(), beside()], [(20, 10), (20, 10)], None),
+        ("an end on the seam", vec![square(), beside()], [(0, 0), (20, 15)], None),
+        ("corner at corner", vec![square(), bar(20, 20, 30, 30)], [(10, 30), (30, 10)], None),
+        ("S twice", vec![square(), square()], [(0, 15), (30, 15)], None),
         ("a block inside another", vec![square(), bar(0, 0, 40, 40)], [(5, 5), (50, 50)], None),
         ("out of a ring", ring(), [(15, 15), (50, 15)], None),
         ("within a ring", ring(), [(5, 5), (25, 25)], Some((29, &[]))),
         ("the listed yard", vec![listed(), vec![(11, 1), (13, 1), (12, 5)]], [(0, 10), (27, 13)], Some((30, &[10]))),
         ("before its block 1", vec![listed()], [(0, 10), (27, 13)], Some((31, &[0, 1]))),
         ("a tie by straights", vec![vec![(5, 1), (6, 3), (4, 3)]], [(0, 0), (10, 1)], Some((11, &[]))),
-        ("the straight barred", vec![vec![(5, 1), (6, 3), (4, 3)], vec![(5, 0), (6, 0), (5, 1)]], [(0, 0), (10, 1)], Some((11, &[0]))),
+        ("the straight barred", vec![vec![(5, 1), (6, 3), (4, 3)], vec![(6, 0), (8, 0), (7, 1)]], [(0, 0), (10, 1)], Some((11, &[0]))),
         ("a tie by marks", vec![square(), bar(11, 6, 19, 11)], [(0, 15), (30, 15)], Some((34, &[3, 2]))),
     ];
     for (name, blocks, ends, way) in rows {

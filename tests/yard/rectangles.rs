@@ -1,7 +1,7 @@
 //! Every straight of a grid that reaches past a block on each side, so that all of them that begin
 //! or end at the edge of the block's rectangle are among them.
 
-use crate::reference::Book;
+use crate::reference::{Book, Place};
 use crate::tables::{pair_index, Edit, Planner, Tables};
 use crate::{same_answer, same_tables, Report};
 
@@ -23,6 +23,13 @@ const GROUPS: usize = 5;
 
 fn group(g: usize) -> Vec<(u16, u16)> {
     (0..SIDE * SIDE).filter(|p| *p as usize % GROUPS == g).map(|p| (p % SIDE, p / SIDE)).collect()
+}
+
+/// The runs of every two groups: one run from each place of the first to a place of the second.
+pub fn run_pairs() -> Vec<Vec<Vec<Place>>> {
+    let place = |p: (u16, u16)| (p.0 as i64, p.1 as i64);
+    let pairs = (0..GROUPS).flat_map(|g| (0..g).map(move |h| (g, h)));
+    pairs.map(|(g, h)| group(g).into_iter().zip(group(h)).map(|(a, b)| vec![place(a), place(b)]).collect()).collect()
 }
 
 /// The block, and runs between two groups of places: their 40 ends are the ends of 780 straights.
