@@ -30,11 +30,12 @@ impl Tables {
     }
 }
 
-/// A grid of octagons, and the block that is dragged.
+/// A grid of octagons or squares, and the block that is dragged.
 #[derive(Clone, Copy)]
 pub struct Grid {
     word: &'static str,
     name: &'static str,
+    shape: &'static [(i32, i32)],
     blocks: usize,
     columns: usize,
     distance: u16,
@@ -43,9 +44,11 @@ pub struct Grid {
     sum: Option<u32>,
 }
 
-const FULL: Grid = Grid { word: "drag", name: "drag yard", blocks: 24, columns: 6, distance: 4000, dragged: 8, runs: 24, sum: Some(692_923) };
+const FULL: Grid = Grid { word: "drag", name: "drag yard", shape: &OCTAGON, blocks: 24, columns: 6, distance: 4000, dragged: 8, runs: 24, sum: Some(692_923) };
 /// The blocks overlap.
 pub const CROWDED: Grid = Grid { word: "crowded", name: "crowded yard", distance: 2300, sum: Some(707_415), ..FULL };
+/// Squares side by side, 4 x 6: every side within is a seam.
+pub const TOUCHING: Grid = Grid { word: "touching", name: "touching yard", shape: &SQUARE, distance: 3000, sum: Some(368_907), ..FULL };
 const GRIDS: [Grid; 4] = [
     Grid { word: "4", name: "grid", blocks: 4, columns: 2, dragged: 1, sum: None, ..FULL },
     Grid { word: "9", name: "grid", blocks: 9, columns: 3, dragged: 3, sum: None, ..FULL },
@@ -53,16 +56,18 @@ const GRIDS: [Grid; 4] = [
     // five columns: the drag yard has six
     Grid { word: "24", name: "grid", columns: 5, distance: 4000, dragged: 11, sum: None, ..FULL },
 ];
-const YARDS: [Grid; 6] = [GRIDS[0], GRIDS[1], GRIDS[2], GRIDS[3], FULL, CROWDED];
+const YARDS: [Grid; 7] = [GRIDS[0], GRIDS[1], GRIDS[2], GRIDS[3], FULL, CROWDED, TOUCHING];
 /// How many runs the yards of the second table have.
 const RUN_COUNTS: [u16; 4] = [1, 8, 16, 24];
 
 const OCTAGON: [(i32, i32); 8] = [(1500, -700), (1500, 700), (700, 1500), (-700, 1500), (-1500, 700), (-1500, -700), (-700, -1500), (700, -1500)];
 
+const SQUARE: [(i32, i32); 4] = [(1500, -1500), (1500, 1500), (-1500, 1500), (-1500, -1500)];
+
 impl Grid {
     pub fn corners(&self, n: usize) -> Vec<u16> {
         let centre = (4000 + self.distance as i32 * (n % self.columns) as i32, 6000 + self.distance as i32 * (n / self.columns) as i32);
-        OCTAGON.iter().flat_map(|c| [(centre.0 + c.0) as u16, (centre.1 + c.1) as u16]).collect()
+        self.shape.iter().flat_map(|c| [(centre.0 + c.0) as u16, (centre.1 + c.1) as u16]).collect()
     }
 
     pub fn ends(m: u16) -> [u16; 4] {
@@ -261,7 +266,8 @@ fn print_table(counts: &Counts) {
         );
     }
     println!();
-    println!("After each drag the tables of ours, plain and redraw are the same bytes; summed lengths 692923 (drag yard) and 707415 (crowded yard).");
+    let sums: Vec<String> = YARDS.iter().filter_map(|g| Some(format!("{} ({})", g.sum?, g.name))).collect();
+    println!("After each drag the tables of ours, plain and redraw are the same bytes; summed lengths {}.", sums.join(", "));
     if graphviz::INSTALLED {
         println!("Graphviz's lengths, unrounded, are at most ours, and ours at most a centimetre more for each of its straights.");
     }

@@ -1,6 +1,6 @@
-//! The route quote: every run of the drag yard and of the crowded yard, from blocks and runs alone.
+//! The route quote: every run of the drag yard, the crowded yard and the touching yard, from blocks and runs alone.
 
-use crate::{abi, Counts, Tables, BLOCKS, CROWDED, FULL, PAIRS, RUNS};
+use crate::{abi, Counts, Tables, BLOCKS, CROWDED, FULL, PAIRS, RUNS, TOUCHING};
 use std::time::Instant;
 
 pub const ROUTE: usize = 197;
@@ -41,7 +41,7 @@ pub fn print(counts: &Counts) {
     println!("{ROUNDS}. Instructions: thousands, by callgrind inside the call. Below them how often each function was called, beside the {PAIRS} pairs of a panel.");
     println!();
     println!("{:<13} {:<24} {:>9} {:>9} {:>9} {:>9}", "yard", "", "least", "average", "most", "sum");
-    for g in [&FULL, &CROWDED] {
+    for g in [&FULL, &CROWDED, &TOUCHING] {
         let t = g.tables();
         print_row(g.name, "time", &(0..24).map(|run| time(&t, run)).collect::<Vec<_>>(), 0);
         for (what, numbers) in counts.quotes(g) {

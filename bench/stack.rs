@@ -1,7 +1,7 @@
 //! The greatest depth of stack inside each call, against the figures of `include/yard.h` and what it has its user
 //! reserve: the call runs on a stack painted beforehand.
 
-use crate::{abi::*, displacements, ducts, pieces, quotes, Grid, Tables, CROWDED};
+use crate::{abi::*, displacements, ducts, pieces, quotes, Grid, Tables, CROWDED, TOUCHING};
 use std::arch::asm;
 
 const SIZE: usize = 1 << 20;
@@ -100,7 +100,7 @@ fn greatest(calls: &[(Tables, Call)]) -> usize {
 }
 
 /// Every kind of edit, in a yard where block and run 8 stand, and a block of 255 corners.
-fn every_kind() -> Vec<u8> {
+fn every_kind(yard: &Grid) -> Vec<u8> {
     let record = |kind: u8, fields: &[u16]| -> Vec<u8> {
         [kind, NUMBER as u8].into_iter().chain(fields.iter().flat_map(|f| f.to_le_bytes())).collect()
     };
@@ -115,7 +115,7 @@ fn every_kind() -> Vec<u8> {
         record(6, &[0, 0, 32_767, 32_767]),
         record(2, &[]),
         block(&[0; 510]),
-        block(&CROWDED.corners(NUMBER as usize)),
+        block(&yard.corners(NUMBER as usize)),
         record(5, &[]),
         record(4, &ends),
     ];
@@ -125,10 +125,10 @@ fn every_kind() -> Vec<u8> {
 /// How many of the calls below a panel makes.
 const PANELS: usize = 10;
 
-/// What each call that edits, checks or draws is tried with, over the crowded yard; the route's quote and the replay, which
-/// no panel makes, last.
-fn calls() -> [(&'static str, Vec<(Tables, Call)>); PANELS + 2] {
-    let mut full = CROWDED.tables();
+/// What each call that edits, checks or draws is tried with, over a yard; the route's quote and the replay, which no panel
+/// makes, last.
+fn calls(yard: &Grid) -> [(&'static str, Vec<(Tables, Call)>); PANELS + 2] {
+    let mut full = yard.tables();
     // a straight whose root is as deep as any
     assert_eq!(full.yard().move_run(0, [0, 2000, 32767, 10]), 0);
     let mut without = full.clone();
@@ -141,10 +141,10 @@ fn calls() -> [(&'static str, Vec<(Tables, Call)>); PANELS + 2] {
     let pieces = numbers().map(|(run, piece)| (full.clone(), Call::Piece(run, piece, [0.0; pieces::POINTS]))).collect();
     let bends = numbers().map(|(run, piece)| (full.clone(), Call::Bend(run, piece, [0.0; pieces::NINE_POINTS]))).collect();
     let quotes = (0..24).map(|run| (full.clone(), Call::QuoteRoute(run, [0; quotes::ROUTE]))).collect();
-    let replay = Call::Replay(every_kind(), vec![0; 4096], [0; 2]);
+    let replay = Call::Replay(every_kind(yard), vec![0; 4096], [0; 2]);
     [
         ("yard_start", vec![(full.clone(), Call::Start)]),
-        ("yard_add_block", vec![(without.clone(), Call::AddBlock(CROWDED.corners(NUMBER as usize)))]),
+        ("yard_add_block", vec![(without.clone(), Call::AddBlock(yard.corners(NUMBER as usize)))]),
         ("yard_remove_block", vec![(full.clone(), Call::RemoveBlock)]),
         ("yard_move_block", move_blocks),
         ("yard_add_run", vec![(without, Call::AddRun(Grid::ends(NUMBER as u16)))]),
@@ -175,8 +175,11 @@ pub fn print() {
         panic!("include/yard.h should reserve two stacks and give four figures: {reserves:?}, {figures:?}")
     };
     let frame = greatest(&[(CROWDED.tables(), Call::Nothing)]);
-    println!("greatest depth of stack of a call, bytes, over the crowded yard");
-    let depths = calls().map(|(name, calls)| (name, greatest(&calls) - frame));
+    println!("greatest depth of stack of a call, bytes, over the crowded yard and the touching yard");
+    let mut depths = calls(&CROWDED).map(|(name, calls)| (name, greatest(&calls) - frame));
+    for (most, (_, calls)) in depths.iter_mut().zip(calls(&TOUCHING)) {
+        most.1 = most.1.max(greatest(&calls) - frame);
+    }
     depths.iter().for_each(|(name, bytes)| println!("{name:<18} {bytes:>6}"));
     let most = depths[..PANELS].iter().map(|d| d.1).max().unwrap_or(0);
     let (route, replay) = (depths[PANELS].1, depths[PANELS + 1].1);
