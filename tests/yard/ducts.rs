@@ -164,10 +164,12 @@ fn wall(r: &mut Random, a: Place, b: Place, thick: i64) -> Vec<Place> {
     }
 }
 
-/// Walls along lines of places, and a run.
+/// Walls along lines of places, and a run. Every second wall is thicker, so that where two meet the outer corners are in
+/// one of them alone.
 pub fn walled(r: &mut Random, lines: &[&[Place]], thick: i64, ends: [Place; 2]) -> Book {
     let mut book = Book::new();
-    let walls: Vec<Vec<Place>> = lines.iter().flat_map(|line| line.windows(2)).map(|w| wall(r, w[0], w[1], thick)).collect();
+    let along = lines.iter().flat_map(|line| line.windows(2)).enumerate();
+    let walls: Vec<Vec<Place>> = along.map(|(k, w)| wall(r, w[0], w[1], thick + 2 * (k as i64 % 2))).collect();
     book.blocks[..walls.len()].clone_from_slice(&walls);
     book.runs[0] = ends.to_vec();
     book

@@ -59,15 +59,8 @@ pub fn hides_by_cutting(corners: &[Place], a: Place, b: Place) -> bool {
 }
 
 /// Whether a straight has a point in a block, sides and corners included: no line parallel to a side, nor the straight's
-/// own line, keeps them apart. Lines from south to north and from west to east are tried first.
+/// own line, keeps them apart.
 pub fn touches(corners: &[Place], a: Place, b: Place) -> bool {
-    let apart = |of: fn(&Place) -> i64| {
-        let (low, high) = (of(&a).min(of(&b)), of(&a).max(of(&b)));
-        corners.iter().all(|c| of(c) < low) || corners.iter().all(|c| of(c) > high)
-    };
-    if apart(|c| c.0) || apart(|c| c.1) {
-        return false;
-    }
     let count = corners.len();
     for k in 0..count {
         let (p, q) = (corners[k], corners[(k + 1) % count]);
@@ -78,6 +71,12 @@ pub fn touches(corners: &[Place], a: Place, b: Place) -> bool {
     let left = corners.iter().any(|&c| cross(a, b, c) >= 0);
     let right = corners.iter().any(|&c| cross(a, b, c) <= 0);
     left && right
+}
+
+/// The corners of the rectangle round some places, the one in the south-west first.
+fn frame(places: &[Place]) -> (Place, Place) {
+    let grown = |f: (Place, Place), p: &Place| ((f.0 .0.min(p.0), f.0 .1.min(p.1)), (f.1 .0.max(p.0), f.1 .1.max(p.1)));
+    places.iter().fold((places[0], places[0]), grown)
 }
 
 /// The turns of both ends of a straight against each side of a block.
@@ -93,11 +92,11 @@ fn holds(sides: &[(i128, i128)], x: i128, w: i128) -> bool {
 
 /// In a seam: some point of the straight belongs to two of the blocks. What two of them have of it in common is a part
 /// with both its ends, so it is enough to try the straight's own ends and the points where it crosses the line of a side.
-pub fn in_seam(blocks: &[Vec<Place>], a: Place, b: Place) -> bool {
-    let near = blocks.iter().filter(|corners| touches(corners, a, b));
+pub fn in_seam<'a>(blocks: impl IntoIterator<Item = &'a Vec<Place>>, a: Place, b: Place) -> bool {
+    let near = blocks.into_iter().filter(|corners| touches(corners, a, b));
     let near: Vec<_> = near.map(|corners| turns(corners, a, b)).collect();
     let twice = |x: i128, w: i128| near.iter().filter(|sides| holds(sides, x, w)).nth(1).is_some();
-    let mut crossed = near.iter().flatten().filter(|&&(from, to)| (from < 0) != (to < 0));
+    let mut crossed = near.iter().flatten().filter(|&&(from, to)| from.signum() * to.signum() < 0);
     near.len() > 1 && (twice(0, 1) || twice(1, 1) || crossed.any(|(from, to)| twice(from.abs(), (from - to).abs())))
 }
 
@@ -243,9 +242,16 @@ impl Book {
         }
     }
 
-    fn byte(&self, a: Option<Place>, b: Option<Place>) -> u8 {
-        match (self.byte_before_seams(a, b), a, b) {
-            (254, Some(a), Some(b)) if in_seam(&self.blocks, a, b) => 253,
+    /// The byte of each pair. Blocks whose rectangle does not reach a straight's are not tried for a seam.
+    fn byte(&self) -> impl Fn(Option<Place>, Option<Place>) -> u8 + '_ {
+        let frames: Vec<_> = self.blocks.iter().filter(|corners| !corners.is_empty()).map(|corners| (frame(corners), corners)).collect();
+        move |a, b| match (self.byte_before_seams(a, b), a, b) {
+            (254, Some(a), Some(b)) => {
+                let (low, high) = frame(&[a, b]);
+                let reaches = |f: &(Place, Place)| f.0 .0 <= high.0 && f.0 .1 <= high.1 && f.1 .0 >= low.0 && f.1 .1 >= low.1;
+                let near = frames.iter().filter(|(frame, _)| reaches(frame)).map(|&(_, corners)| corners);
+                254 - in_seam(near, a, b) as u8
+            }
             (byte, _, _) => byte,
         }
     }
@@ -271,21 +277,21 @@ impl Book {
 
     /// The fresh drawing.
     pub fn drawing(&self) -> Tables {
-        self.drawing_with(Book::byte)
+        self.drawing_with(self.byte())
     }
 
     /// As it was drawn before seams were hidden.
     pub fn drawing_before_seams(&self) -> Tables {
-        self.drawing_with(Book::byte_before_seams)
+        self.drawing_with(|a, b| self.byte_before_seams(a, b))
     }
 
-    fn drawing_with(&self, byte: impl Fn(&Book, Option<Place>, Option<Place>) -> u8) -> Tables {
+    fn drawing_with(&self, byte: impl Fn(Option<Place>, Option<Place>) -> u8) -> Tables {
         let mut t = Tables { blocks: vec![0; BLOCKS], runs: vec![0; RUNS], pairs: vec![255; PAIRS], routes: vec![0; ROUTES] };
         self.write_records(&mut t);
         let marks = self.marks();
         for j in 0..240 {
             for i in 0..j {
-                t.pairs[pair_index(i, j)] = byte(self, marks[i], marks[j]);
+                t.pairs[pair_index(i, j)] = byte(marks[i], marks[j]);
             }
         }
         self.write_routes(&mut t);
@@ -406,7 +412,7 @@ pub fn edited(t: &Tables, e: &Edit) -> (u32, Tables) {
 
 /// How an accepted edit treats pairs, in tables right or wrong: docs/RULES.md, "The calls and their questions".
 fn treat_pairs(book: &Book, e: &Edit, pairs: &mut [u8]) {
-    let marks = book.marks();
+    let (marks, fresh) = (book.marks(), book.byte());
     let (own, block) = match e {
         Edit::AddBlock(n, _) | Edit::RemoveBlock(n) | Edit::MoveBlock(n, _, _) => (8 * *n as usize..8 * *n as usize + 8, Some(*n as u8)),
         Edit::AddRun(m, _) | Edit::RemoveRun(m) | Edit::MoveRun(m, _) => (192 + 2 * *m as usize..194 + 2 * *m as usize, None),
@@ -416,7 +422,7 @@ fn treat_pairs(book: &Book, e: &Edit, pairs: &mut [u8]) {
             let byte = &mut pairs[pair_index(i, j)];
             let afresh = |n: u8| *byte == n || *byte == 253 || *byte == 254;
             if own.contains(&i) || own.contains(&j) || block.is_some_and(afresh) {
-                *byte = book.byte(marks[i], marks[j]);
+                *byte = fresh(marks[i], marks[j]);
             } else if let (Some(n), Some(a), Some(b)) = (block, marks[i], marks[j]) {
                 if *byte > n && hides(&book.blocks[n as usize], a, b) {
                     *byte = n;

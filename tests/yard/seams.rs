@@ -472,8 +472,8 @@ fn random_yards(p: &impl Planner, report: &mut Report) {
     let mut seen = Seen::default();
     for (at, kind) in KINDS.iter().enumerate() {
         for group in 0..10 {
-            report.case(&format!("seams, {}, yards from {}", kind.name, 40 * group), |calls| {
-                (40 * group..40 * group + 40).try_for_each(|k| {
+            report.case(&format!("seams, {}, yards from {}", kind.name, 30 * group), |calls| {
+                (30 * group..30 * group + 30).try_for_each(|k| {
                     let mut r = Random::new(10_000_000 + 100_000 * at as u64 + k);
                     yard(p, &mut r, k, *kind, &mut seen, calls).map_err(|why| format!("yard {k}: {why}"))
                 })
