@@ -11,8 +11,8 @@
  *
  * A call keeps nothing: there is no hidden state, no heap and no I/O. Calls on different tables may run at the same
  * time; calls on the same tables must not, except those that take them const beside each other. A call uses about 4 KiB
- * of stack (4,152 bytes at most where it was measured, on x86-64), yard_quote_route about 4 KiB (4,208 bytes) and
- * yard_replay about 6 KiB (6,088 bytes): reserve 8 KiB. Only yard_quote_duct takes more, about 19 KB.
+ * of stack (4,152 bytes at most where it was measured, on x86-64), yard_quote_route about 4 KiB (4,480 bytes) and
+ * yard_replay about 6 KiB (6,136 bytes): reserve 8 KiB. Only yard_quote_duct takes more, about 19 KB.
  *
  * East is the first coordinate, north the second, from 0 to 32,767; lengths are in centimetres.
  *
@@ -40,8 +40,12 @@ extern "C" {
 
 /*
  * pairs: one byte for each two marks. Corner k of block n is mark 8 * n + k; the ends of run m are marks 192 + 2 * m
- * and 193 + 2 * m. The byte of marks i < j is at j * (j - 1) / 2 + i: 255 if either mark is absent, 254 if the
- * straight between them is clear, else the lowest number of a block that hides it.
+ * and 193 + 2 * m. The byte of marks i < j is at j * (j - 1) / 2 + i: 255 if either mark is absent, else the lowest
+ * number of a block that hides the straight between them, else 253 if the straight is in a seam, else 254.
+ *
+ * A block hides a straight that has a point inside it; touching a side or a corner hides nothing. A straight is in a
+ * seam if some point of it belongs to two different blocks, sides and corners included. A straight is clear if no block
+ * hides it and it is in no seam: only then may a run take it. So a run with an end on a seam has no way.
  */
 #define YARD_PAIRS_LEN 28680
 
@@ -159,7 +163,7 @@ uint32_t yard_bend(const uint16_t *blocks, size_t blocks_len, const uint16_t *ru
                    uint32_t piece, uint32_t *kind, size_t kind_len, double *points, size_t points_len);
 
 /*
- * The route of a run from blocks and runs alone, where there is no memory for pairs: whether a straight is hidden is
+ * The route of a run from blocks and runs alone, where there is no memory for pairs: whether a straight is clear is
  * tested only where the best route so far goes. route has exactly YARD_ROUTE_WORDS words, and is filled with the
  * record that blocks and runs require: what right tables hold for the run in routes. Blocks and runs are only read.
  * Answers 0 to 3 and 5.
@@ -178,7 +182,7 @@ uint32_t yard_quote_route(const uint16_t *blocks, size_t blocks_len, const uint1
  * count of crossings, both 0 where there is no way. crossings has exactly YARD_DUCT_CROSSINGS_LEN words: east and
  * north of every crossing on the way, bends or not, from the first end to the second; all other words are 0. It is
  * scratch during a call that is accepted, so nobody else may look at it meanwhile. Blocks and runs are only read. The
- * call uses about 19 KB of stack (18,888 bytes where it was measured): reserve 24 KiB. Answers 0 to 3, 5 and 12.
+ * call uses about 19 KB of stack (18,992 bytes where it was measured): reserve 24 KiB. Answers 0 to 3, 5 and 12.
  */
 #define YARD_DUCT_QUOTE_LEN 3
 #define YARD_DUCT_CROSSINGS_LEN 8712
