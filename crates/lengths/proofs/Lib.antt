@@ -1,2 +1,3 @@
 pub mod Squares
 pub mod Roots
+pub mod Charges

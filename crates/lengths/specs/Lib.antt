@@ -1,2 +1,3 @@
 pub mod Length
+pub mod Charge
 pub mod inner

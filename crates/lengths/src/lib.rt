@@ -1,8 +1,10 @@
-// Exact lengths on whole centimetres: roots, rounded up.
+// Exact lengths on whole centimetres: roots, rounded up, and what is charged by them.
 ghost use mathlib.Core.Path.{_≡_};
 ghost use Prim.Native.Nat.{_+_, _*_, _≤_};
+ghost use lib.Dec.{ltb};
 ghost use Rattle.geometry.specs.Words.{pointOf};
 ghost use Rattle.lengths.specs.Length.{gap, squared, rootUp};
+ghost use Rattle.lengths.specs.Charge.{charge};
 ghost use Rattle.lengths.specs.inner.Roots.{Root};
 use geometry::Place;
 
@@ -58,4 +60,33 @@ pub fn squared(a: Place, b: Place) -> u64
     ensures small { λ r. ⌜ r ≤ 8589672450 ⌝ }
 {
     square(apart(a.east, b.east)) + square(apart(a.north, b.north))
+}
+
+// What a straight is charged, by its squared length.
+pub fn charge(figure: u64, square: u64) -> u64
+    requires { ⌜ square ≤ 8589672450 ⌝ }
+    ensures { λ r. ⌜ r ≡ charge figure (rootUp square) ⌝ }
+{
+    let length = root_up(square);
+    if length == 0 {
+        return 0;
+    }
+    if length < figure {
+        return figure;
+    }
+    length
+}
+
+// Whether that is more than a number. No root is taken.
+pub fn dearer(figure: u64, square: u64, most: u64) -> bool
+    requires { ⌜ most ≤ 16777215 ⌝ }
+    ensures { λ r. ⌜ r ≡ ltb most (charge figure (rootUp square)) ⌝ }
+{
+    if square == 0 {
+        return false;
+    }
+    if most < figure {
+        return true;
+    }
+    most * most < square
 }
