@@ -19,12 +19,12 @@ use Rattle.geometry.proofs.Searching.{part-is}
 use Rattle.tables.specs.Tables.{Tables, tables, stored, records}
 use Rattle.tables.specs.Written.{blockRecord}
 use Rattle.tables.proofs.Splices.{corners-record, places-length}
-use Rattle.records.specs.Questions.{countRight, coordinateRight, placeRight, shiftRight, lentPlaces, recordsRight}
+use Rattle.records.specs.Questions.{countRight, coordinateRight, placeRight, shiftRight, lentPlaces, figureRight, recordsRight}
 use Rattle.records.proofs.Fits.{record-bounded}
 use Rattle.records.proofs.Filled.{count-facts}
 use Rattle.records.proofs.Places.{places-right, corners-bounded}
 use Rattle.book.specs.Questions.{Question, ask, firstNo, lengthsRight, numberRight}
-use Rattle.book.specs.Book.{Edit, addBlock, removeBlock, moveBlock, addRun, removeRun, moveRun, Book, free, questions}
+use Rattle.book.specs.Book.{Edit, addBlock, removeBlock, moveBlock, addRun, removeRun, moveRun, setCharge, Book, free, questions}
 use Rattle.book.specs.inner.Named.{numberOf, named}
 use Rattle.book.specs.Edits.{bookOf, fitness, answerOver}
 use Rattle.book.proofs.Questions.{sized-of, lengths-yes, lengths-no, first-yes, first-more, Fitting, fitting}
@@ -41,13 +41,13 @@ module _ (b r p s : List ℕ) where
   pub blocks-off : (length b ≡ 408 → ⊥) → false ≡ lengthsRight (tables b r p s)
   blocks-off h = sym (lengths-no (tables b r p s) (λ z. h (z .blocks)))
 
-  pub runs-off : (length r ≡ 120 → ⊥) → false ≡ lengthsRight (tables b r p s)
+  pub runs-off : (length r ≡ 121 → ⊥) → false ≡ lengthsRight (tables b r p s)
   runs-off h = sym (lengths-no (tables b r p s) (λ z. h (z .runs)))
 
   pub pairs-off : (length p ≡ 28680 → ⊥) → false ≡ lengthsRight (tables b r p s)
   pairs-off h = sym (lengths-no (tables b r p s) (λ z. h (z .pairs)))
 
-  pub routes-asked : length b ≡ 408 → length r ≡ 120 → length p ≡ 28680 → eqb (length s) 4728 ≡ lengthsRight (tables b r p s)
+  pub routes-asked : length b ≡ 408 → length r ≡ 121 → length p ≡ 28680 → eqb (length s) 4728 ≡ lengthsRight (tables b r p s)
   unfolding lengthsRight
   routes-asked eb er ep = rw (eq-eqb _ _ eb, eq-eqb _ _ er, eq-eqb _ _ ep)
 
@@ -55,7 +55,7 @@ module _ (b r p s : List ℕ) where
     pub blocks-sized : length b ≡ 408
     blocks-sized = sized-of (tables b r p s) (yes-of t _ e y) .blocks
 
-    pub runs-sized : length r ≡ 120
+    pub runs-sized : length r ≡ 121
     runs-sized = sized-of (tables b r p s) (yes-of t _ e y) .runs
 
 -- ---- questions 1 and 2
@@ -91,25 +91,41 @@ module _ (T : Tables) (v n : ℕ) (f : v ≡ fitness T) where
     unfolding firstNo
     named-none h = rw (fit-named, lt-ltb n 24 h)
 
--- every edit asks question 3 first, of the number that it names
-rest : List Question → List Question
-rest [] = []
-rest (q ∷ qs) = qs
-
-asks-number : (b : Book) (e : Edit) → questions b e ≡ ask 3 (numberRight (numberOf e)) ∷ rest (questions b e)
-unfolding questions rest
-asks-number b (addBlock n ws) = refl
-asks-number b (removeBlock n) = refl
-asks-number b (moveBlock n de dn) = refl
-asks-number b (addRun m p q) = refl
-asks-number b (removeRun m) = refl
-asks-number b (moveRun m p q) = refl
+-- every edit asks question 3 first, of the number that it names; the figure's may ask it too
+asks-number : (b : Book) (e : Edit) → (qs : List Question) × (firstNo (questions b e) ≡ firstNo (ask 3 (numberRight (numberOf e)) ∷ qs))
+unfolding questions firstNo
+asks-number b (addBlock n ws) = (drop 1 (questions b (addBlock n ws)), refl)
+asks-number b (removeBlock n) = (drop 1 (questions b (removeBlock n)), refl)
+asks-number b (moveBlock n de dn) = (drop 1 (questions b (moveBlock n de dn)), refl)
+asks-number b (addRun m p q) = (drop 1 (questions b (addRun m p q)), refl)
+asks-number b (removeRun m) = (drop 1 (questions b (removeRun m)), refl)
+asks-number b (moveRun m p q) = (drop 1 (questions b (moveRun m p q)), refl)
+asks-number b (setCharge f) = (questions b (setCharge f), refl)
 
 pub unnamed : (T : Tables) (e : Edit) (v : ℕ) → v ≡ named T (numberOf e) → (v ≡ 0 → ⊥) → v ≡ answerOver T e
-unfolding answerOver
+unfolding answerOver firstNo
 unnamed T e v f n =
-    rw (asks-number (bookOf (records T)) e)
-    (f ∙ first-more (ask 1 (lengthsRight T) ∷ ask 2 (recordsRight (records T)) ∷ ask 3 (numberRight (numberOf e)) ∷ []) (rest (questions (bookOf (records T)) e)) (λ z. n (f ∙ z)))
+    let q = asks-number (bookOf (records T)) e in
+    rw (q .1) (f ∙ first-more (ask 1 (lengthsRight T) ∷ ask 2 (recordsRight (records T)) ∷ ask 3 (numberRight (numberOf e)) ∷ []) (q .0) (λ z. n (f ∙ z)))
+
+-- the figure
+module _ (T : Tables) (v g : ℕ) (f : v ≡ fitness T) where
+  pub charge-unfit : (v ≡ 0 → ⊥) → v ≡ answerOver T (setCharge g)
+  unfolding answerOver
+  charge-unfit h = f ∙ first-more (ask 1 (lengthsRight T) ∷ ask 2 (recordsRight (records T)) ∷ []) (questions (bookOf (records T)) (setCharge g)) (λ z. h (f ∙ z))
+
+  module _ (z : v ≡ 0) (t : Bool) (a : t ≡ figureRight g) where
+    asked : answerOver T (setCharge g) ≡ firstNo (questions (bookOf (records T)) (setCharge g))
+    unfolding answerOver firstNo
+    asked = let k = fitting T (sym f ∙ z) in rw (lengths-yes T (k .sized), k .right)
+
+    pub charge-13 : not t ≡ true → 13 ≡ answerOver T (setCharge g)
+    unfolding questions firstNo
+    charge-13 n = rw (asked, no-of t _ a n)
+
+    pub charge-0 : not t ≡ false → 0 ≡ answerOver T (setCharge g)
+    unfolding questions firstNo
+    charge-0 n = rw (asked, yes-of t _ a n)
 
 -- question 7 of both ends
 pub ends-yes : (t u a b : Bool) → t ≡ a → t ≡ true → u ≡ b → u ≡ a && b

@@ -5,7 +5,7 @@ ghost use Rattle.geometry.specs.Words.{pointOf};
 ghost use Rattle.tables.specs.Tables.{tables};
 ghost use Rattle.records.specs.Questions.{placeRight};
 ghost use Rattle.book.specs.Questions.{lengthsRight};
-ghost use Rattle.book.specs.Book.{addBlock, removeBlock, moveBlock, addRun, removeRun, moveRun};
+ghost use Rattle.book.specs.Book.{addBlock, removeBlock, moveBlock, addRun, removeRun, moveRun, setCharge};
 ghost use Rattle.book.specs.Edits.{fitness, answerOver};
 ghost use Rattle.book.specs.inner.Named.{named};
 use geometry::Place;
@@ -13,6 +13,7 @@ use geometry::is_convex;
 use moves::shifts_right;
 use records::coordinates_right;
 use records::count_right;
+use records::figure_right;
 use records::new_record;
 use records::place_right;
 use records::records_right;
@@ -24,7 +25,7 @@ pub fn lengths_right(blocks: &[u16], runs: &[u16], pairs: &[u8], routes: &[u32])
     if blocks.len() != 408 {
         return false;
     }
-    if runs.len() != 120 {
+    if runs.len() != 121 {
         return false;
     }
     if pairs.len() != 28680 {
@@ -218,6 +219,26 @@ pub fn move_run_answer(
     }
     if !ends_right(first, second) {
         return 7;
+    }
+    0
+}
+
+pub fn set_charge_answer(
+    blocks: &[u16],
+    runs: &[u16],
+    pairs: &[u8],
+    routes: &[u32],
+    figure: u16,
+) -> u32
+    ensures { λ r. ⌜ r ≡ answerOver (tables (now (blocks .entry)) (now (runs .entry)) (now (pairs .entry)) (now (routes .entry)))
+        (setCharge figure) ⌝ }
+{
+    let v = fitness(blocks, runs, pairs, routes);
+    if v != 0 {
+        return v;
+    }
+    if !figure_right(figure as u64) {
+        return 13;
     }
     0
 }

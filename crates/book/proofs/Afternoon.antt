@@ -1,4 +1,4 @@
--- The reviewer's afternoon: what no program for the six edits can do that meets their contracts, whatever its text.
+-- The reviewer's afternoon: what no program for the seven edits can do that meets their contracts, whatever its text.
 use mathlib.Core.Path.{_≡_, refl, sym, ap, _∙_}
 use mathlib.Core.List.{List, [], _∷_}
 use Prim.Native.Nat.{ℕ, _*_, _-_, _<_}

@@ -9,6 +9,7 @@ use lib.ListN.{getD, replicate}
 use borrow.Author.Tests.{ltb-true}
 use Rattle.geometry.specs.Words.{Point, point, word, blockWords}
 use Rattle.lengths.specs.Length.{lengthOf}
+use Rattle.lengths.proofs.Charges.{charge-plain}
 use Rattle.lists.proofs.Every.{both}
 use Rattle.paths.specs.Path.{Chain, last, more, total}
 use Rattle.tables.specs.Tables.{Tables, records, routeWords, isCorner, isEnd, present, placeOf, pairIndex}
@@ -103,7 +104,7 @@ module _ (a q : Point) (T : Tables) (d : Drawn (withRun emptyBook 0 (a ∷ q ∷
 
   costs : cost (records T) 192 193 ≡ lengthOf a q
   unfolding cost
-  costs = rw (first-place _ T d a q refl, second-place _ T d a q refl)
+  costs = rw (d .figure, first-place _ T d a q refl, second-place _ T d a q refl) (charge-plain (lengthOf a q))
 
   pub lone-length : word (routeWords (T .routes) 0) 1 ≡ lengthOf a q
   lone-length = go (d .right .routes 0 (omega arith))

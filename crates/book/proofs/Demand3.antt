@@ -8,7 +8,7 @@ use native.Mathlib.Omega.{arith}
 use native.Mathlib.Decide.{ℕ-discrete}
 use lib.Dec.{ltb, leb}
 use lib.ListN.{length, getD, length-replicate}
-use borrow.Author.Tests.{le-ltb}
+use borrow.Author.Tests.{le-leb, le-ltb}
 use Rattle.geometry.specs.Words.{Point, blockWords, corners, placesFrom, word}
 use Rattle.tables.specs.Tables.{OnBlock, OnRun, Tables, isCorner, isEnd, pairIndex, present, records, routeWords, runWords}
 use Rattle.tables.specs.Written.{blockRecord, runRecord}
@@ -16,16 +16,16 @@ use Rattle.records.specs.Questions.{blockRight, recordsRight, runRight}
 use Rattle.visibility.specs.Visibility.{ByPlaces, PairIs, PairsRight}
 use Rattle.routing.specs.Routes.{RouteIs, noRun}
 use Rattle.book.specs.Questions.{firstNo, lengthsRight}
-use Rattle.book.specs.Book.{Book, Edit, Target, afterAll, answer, answers, emptyBook, step, target, withBlock, withRun, write, written}
+use Rattle.book.specs.Book.{Book, Edit, Target, afterAll, answer, answers, emptyBook, step, target, withBlock, withFigure, withRun, write, written}
 use Rattle.book.specs.Drawing.{Drawn}
-use Rattle.book.specs.Edits.{BlockEdited, Called, Edited, RunEdited, answerOver, bookOf, started}
+use Rattle.book.specs.Edits.{BlockEdited, Called, Edited, FigureEdited, RunEdited, answerOver, bookOf, started}
 use Rattle.book.specs.History.{Calls, Demand3, call, noCalls}
 use Rattle.tables.proofs.Splices.{blockRecord-none, corners-record, part-replicate, runRecord-none, word-replicate, word-zeros}
-use Rattle.tables.proofs.Kept.{Same, block-here, block-other, block-same, block-size, run-here, run-other, run-same, run-size}
+use Rattle.tables.proofs.Kept.{Same, block-here, block-other, block-same, block-size, figure-here, figure-runs, figure-same, figure-size, run-figure, run-here, run-other, run-same, run-size}
 use Rattle.tables.proofs.Pairs.{pair-in}
-use Rattle.visibility.proofs.Lasting.{block-pair, run-pair}
+use Rattle.visibility.proofs.Lasting.{block-pair, pair-on, run-pair}
 use Rattle.lists.proofs.Below.{all-yes}
-use Rattle.book.proofs.Sound.{Allowed, Sound, accepted, block, empty-sound, none-there, place-after, run, step-done, step-refused, write-sound}
+use Rattle.book.proofs.Sound.{Allowed, Sound, accepted, block, empty-sound, least, none-there, place-after, run, step-done, step-refused, write-sound}
 use Rattle.book.proofs.Stored.{upTo-is}
 use Rattle.records.proofs.Places.{BlockPlace, RunPlace, block-right, block-small, run-full, run-right, ends-record}
 use Rattle.book.proofs.Rerouting.{route-right}
@@ -41,6 +41,8 @@ module _ (b : Book) (T : Tables) (s : Sound b) (d : Drawn b T) where
       rw (
         all-yes (λ n. blockRight (blockWords (T .blocks) n)) 24 (λ n l. rw (d .blocks n l) (block-right (getD (b .blocks) n []) (s .blocks n))),
         all-yes (λ m. runRight (runWords (T .runs) m)) 24 (λ m l. rw (d .runs m l) (run-right (getD (b .runs) m []) (s .runs m))),
+        d .figure,
+        le-leb (b .figure) 1000 (s .figure),
       )
 
   pub drawn-book : bookOf (records T) ≡ b
@@ -49,7 +51,7 @@ module _ (b : Book) (T : Tables) (s : Sound b) (d : Drawn b T) where
       let p = upTo-is (b .blocks) (λ n. corners (blockWords (T .blocks) n)) (s .blockCount) (λ n l. rw (d .blocks n l) (corners-record (getD (b .blocks) n []))) in
       let q = upTo-is (b .runs) (λ m. placesFrom (runWords (T .runs) m) 1 (2 * word (runWords (T .runs) m) 0)) (s .runCount)
       (λ m l. rw (d .runs m l) (ends-record (getD (b .runs) m []) (s .runs m))) in
-      λ i. record { blocks = p i; runs = q i }
+      λ i. record { blocks = p i; runs = q i; figure = d .figure i }
 
   pub drawn-answer : (e : Edit) → answerOver T e ≡ answer b e
   unfolding answerOver answer firstNo
@@ -58,7 +60,7 @@ module _ (b : Book) (T : Tables) (s : Sound b) (d : Drawn b T) where
 -- words of the empty tables
 started-absent : (i : ℕ) → present (records started) i ≡ false
 unfolding present isCorner isEnd started
-started-absent i = rw (word-zeros 408 (17 * (i / 8)), le-ltb (i % 8) 0 (omega arith), word-zeros 120 (5 * ((i - 192) / 2)), and-false (ltb i 192), and-false (leb 192 i && ltb i 240))
+started-absent i = rw (word-zeros 408 (17 * (i / 8)), le-ltb (i % 8) 0 (omega arith), word-zeros 121 (5 * ((i - 192) / 2)), and-false (ltb i 192), and-false (leb 192 i && ltb i 240))
 
 started-pair : (i j : ℕ) → i < j → j < 240 → PairIs (records started) i j (word (started .pairs) (pairIndex i j))
 unfolding started
@@ -66,15 +68,16 @@ started-pair i j h l = PairIs.absent (rw (started-absent i)) (word-replicate 286
 
 started-route : (m : ℕ) → m < 24 → RouteIs (records started) (ByPlaces (records started)) m (routeWords (started .routes) m)
 unfolding started
-started-route m l = rw (part-replicate 4728 (197 * m) 197 0 (omega arith)) (noRun (word-zeros 120 (5 * m)))
+started-route m l = rw (part-replicate 4728 (197 * m) 197 0 (omega arith)) (noRun (word-zeros 121 (5 * m)))
 
 pub started-drawn : Drawn emptyBook started
 unfolding started
 started-drawn =
     record {
-      sizes = (length-replicate {A = ℕ} 408 0, length-replicate {A = ℕ} 120 0, length-replicate {A = ℕ} 28680 255, length-replicate {A = ℕ} 4728 0);
+      sizes = (length-replicate {A = ℕ} 408 0, length-replicate {A = ℕ} 121 0, length-replicate {A = ℕ} 28680 255, length-replicate {A = ℕ} 4728 0);
       blocks = λ n l. rw (none-there 24 n) (part-replicate 408 (17 * n) 17 0 (omega arith) ∙ sym blockRecord-none);
-      runs = λ m l. rw (none-there 24 m) (part-replicate 120 (5 * m) 5 0 (omega arith) ∙ sym runRecord-none);
+      runs = λ m l. rw (none-there 24 m) (part-replicate 121 (5 * m) 5 0 (omega arith) ∙ sym runRecord-none);
+      figure = word-zeros 121 120;
       right = record { pairs = record { each = started-pair }; routes = started-route };
     }
 
@@ -87,6 +90,7 @@ block-drawn b T T′ n ps s d l h e =
           (λ q. rw q (block-here (records T) (records T′) n ps l (d .sizes .0) small (e .blocks) (e .runs)))
           (λ q. other k q ∙ d .blocks k c);
       runs = λ m c. rw (e .runs) (d .runs m c);
+      figure = rw (e .runs) (d .figure);
       right = record { pairs = pairs; routes = λ m c. route-right (records T′) (T′ .pairs) pairs m _ c (e .routes .each m c) };
     }
   where
@@ -111,6 +115,7 @@ run-drawn b T T′ m ps s d l h e =
           place-after (b .runs) m k ps (λ qs. runWords (T′ .runs) k ≡ runRecord qs) (omega arith)
           (λ q. rw q (run-here (records T) (records T′) m ps l (d .sizes .1) full (e .blocks) (e .runs)))
           (λ q. run-other (records T) (records T′) m ps l (d .sizes .1) full (e .blocks) (e .runs) k q ∙ d .runs k c);
+      figure = run-figure (records T) (records T′) m ps l (d .sizes .1) full (e .blocks) (e .runs) ∙ d .figure;
       right = record { pairs = pairs; routes = λ k c. route-right (records T′) (T′ .pairs) pairs k _ c (e .routes .each k c) };
     }
   where
@@ -123,9 +128,26 @@ run-drawn b T T′ m ps s d l h e =
     pairs : PairsRight (records T′) (T′ .pairs)
     pairs = record { each = λ i j a c. run-pair (records T) (records T′) m i j _ _ (e .blocks) (same i) (same j) (e .pairs .each i j a c) (d .right .pairs .each i j a c) }
 
+figure-drawn : (b : Book) (T T′ : Tables) (f : ℕ) → Drawn b T → FigureEdited T f T′ → Drawn (withFigure b f) T′
+figure-drawn b T T′ f d e =
+    record {
+      sizes = (ap length (e .blocks) ∙ d .sizes .0, figure-size (records T) (records T′) f (e .blocks) (e .runs) ∙ d .sizes .1, ap length (e .pairs) ∙ d .sizes .2, e .routes .sized);
+      blocks = λ n c. rw (e .blocks) (d .blocks n c);
+      runs = λ m c. figure-runs (records T) (records T′) f (e .blocks) (e .runs) m c ∙ d .runs m c;
+      figure = figure-here (records T) (records T′) f (e .blocks) (e .runs) (omega (arith, d .sizes .1));
+      right = record { pairs = rw (e .pairs) pairs; routes = λ m c. route-right (records T′) (T .pairs) pairs m _ c (e .routes .each m c) };
+    }
+  where
+    same : (i : ℕ) → i < 240 → Same (records T) (records T′) i
+    same = figure-same (records T) (records T′) f (e .blocks) (e .runs)
+
+    pairs : PairsRight (records T′) (T .pairs)
+    pairs = record { each = λ i j a c. pair-on (records T) (records T′) i j _ (λ k. rw (e .blocks)) (same i (omega arith)) (same j c) (d .right .pairs .each i j a c) }
+
 write-drawn : (b : Book) (T T′ : Tables) (p : Target) (ps : List Point) → Sound b → Drawn b T → Allowed p ps → Edited p T ps T′ → Drawn (write b p ps) T′
 write-drawn b T T′ p ps s d (block {n = n} l h) e = block-drawn b T T′ n ps s d l h e
 write-drawn b T T′ p ps s d (run {m = m} l h) e = run-drawn b T T′ m ps s d l h e
+write-drawn b T T′ p ps s d (least {f = f} h) e = figure-drawn b T T′ f d e
 
 -- one call: the book's answer, and the drawing of the book's next state
 pub call-drawn : (b : Book) (e : Edit) (T T′ : Tables) (r : ℕ) → Sound b → Drawn b T → Called e T r T′

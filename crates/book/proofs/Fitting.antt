@@ -1,5 +1,5 @@
 -- Tables that questions 1 and 2 pass: their records are those of the book that they write, and that book is sound.
-use mathlib.Core.Path.{_≡_}
+use mathlib.Core.Path.{_≡_, sym}
 use mathlib.Core.List.{[]}
 use Prim.Native.Nat.{ℕ, _*_, _<_}
 use native.Mathlib.Omega.{arith}
@@ -8,12 +8,12 @@ use Rattle.geometry.specs.Words.{blockWords}
 use Rattle.tables.specs.Tables.{Tables, records, runWords}
 use Rattle.tables.specs.Written.{blockRecord, runRecord}
 use Rattle.tables.proofs.Splices.{part-length}
-use Rattle.records.proofs.Fits.{block-allowed, run-allowed}
+use Rattle.records.proofs.Fits.{block-allowed, run-allowed, figure-allowed}
 use Rattle.records.proofs.Places.{BlockPlace, vacant, RunPlace, unused, block-again, block-place, run-again, run-place}
 use Rattle.book.specs.Drawing.{Right, Drawn}
 use Rattle.book.specs.Edits.{bookOf}
 use Rattle.book.proofs.Questions.{Fitting}
-use Rattle.book.proofs.Stored.{book-block, book-run, upTo-length, upTo-each}
+use Rattle.book.proofs.Stored.{book-block, book-run, book-figure, upTo-length, upTo-each}
 use Rattle.book.proofs.Sound.{Sound}
 
 module _ (T : Tables) (f : Fitting T) where
@@ -38,10 +38,11 @@ module _ (T : Tables) (f : Fitting T) where
         runCount = upTo-length 24 _;
         blocks = upTo-each 24 _ BlockPlace vacant (λ k l. block-place _ (block-allowed (records T) (s .blocks) (s .runs) (f .right) k l));
         runs = upTo-each 24 _ RunPlace unused (λ k l. run-place _ (run-allowed (records T) (s .blocks) (s .runs) (f .right) k l));
+        figure = figure-allowed (records T) (s .blocks) (s .runs) (f .right);
       }
 
   -- where their pairs and routes are right too, they are its drawing
   pub fitting-drawn : Right T → Drawn (bookOf (records T)) T
   fitting-drawn r =
       let s = f .sized in
-      record { sizes = (s .blocks, s .runs, s .pairs, s .routes); blocks = fitting-block; runs = fitting-run; right = r }
+      record { sizes = (s .blocks, s .runs, s .pairs, s .routes); blocks = fitting-block; runs = fitting-run; figure = sym (book-figure (records T)); right = r }

@@ -5,13 +5,13 @@ use mathlib.Core.List.{List, [], _∷_}
 use Prim.Native.Nat.{ℕ, _*_, _<_}
 use native.Mathlib.Omega.{arith}
 use native.Mathlib.Decide.{ℕ-discrete}
-use lib.ListN.{length, drop}
+use lib.ListN.{length, set, drop}
 use Rattle.lists.specs.Lists.{splice}
 use Rattle.geometry.specs.Words.{Point, word}
 use Rattle.tables.specs.Tables.{Records, Tables, records, runWords, stored, tables}
 use Rattle.tables.specs.Written.{blockRecord, runRecord}
 use Rattle.tables.proofs.Splices.{run-first}
-use Rattle.tables.proofs.Kept.{run-here, run-other}
+use Rattle.tables.proofs.Kept.{figure-runs, run-here, run-other}
 use Rattle.records.specs.Questions.{recordsRight}
 use Rattle.records.proofs.Places.{RunPlace, run-full}
 use Rattle.visibility.proofs.Exists.{blockRedrawn-exists, runRedrawn-exists}
@@ -19,9 +19,9 @@ use Rattle.routing.proofs.Fits.{routed-exists}
 use Rattle.book.specs.Questions.{ask, firstNo, lengthsRight}
 use Rattle.book.specs.Book.{Edit, Target, target, answer, written}
 use Rattle.book.specs.Drawing.{Drawn}
-use Rattle.book.specs.Edits.{bookOf, fitness, answerOver, BlockEdited, RunEdited, Edited, Called, started, Started, Checked}
+use Rattle.book.specs.Edits.{bookOf, fitness, answerOver, BlockEdited, RunEdited, FigureEdited, Edited, Called, started, Started, Checked}
 use Rattle.book.proofs.Questions.{Fitting, first-yes, fitting, sized-of}
-use Rattle.book.proofs.Sound.{Allowed, block, run, accepted}
+use Rattle.book.proofs.Sound.{Allowed, block, run, least, accepted}
 use Rattle.book.proofs.Fitting.{fitting-run, fitting-sound, fitting-drawn}
 use Rattle.book.proofs.Unique.{drawn-unique}
 use Rattle.book.proofs.Exists.{run-flag, drawn-exists}
@@ -54,9 +54,16 @@ module _ (T : Tables) (f : Fitting T) where
       after k c (no e) =
           flag-of (R .runs) k _ (run-other (records T) R m ps l (f .sized .runs) (run-full ps h) refl refl k e ∙ fitting-run T f k c) (fitting-sound T f .runs k)
 
+  figure-edited : (k : ℕ) → (T′ : Tables) × FigureEdited T k T′
+  figure-edited k =
+      let R : Records = stored (T .blocks) (set (T .runs) 120 k) in
+      let routes = routed-exists R (T .pairs) (λ m l. flag-of (R .runs) m _ (figure-runs (records T) R k refl refl m l ∙ fitting-run T f m l) (fitting-sound T f .runs m)) in
+      (tables (R .blocks) (R .runs) (T .pairs) (routes .0), record { blocks = refl; runs = refl; pairs = refl; routes = routes .1 })
+
   edited-exists : (p : Target) (ps : List Point) → Allowed p ps → (T′ : Tables) × Edited p T ps T′
   edited-exists p ps (block {n = n} l h) = block-edited n ps
   edited-exists p ps (run {m = m} l h) = run-edited m ps l h
+  edited-exists p ps (least {f = k} h) = figure-edited k
 
 pub called-exists : (e : Edit) (T : Tables) → (T′ : Tables) × Called e T (answerOver T e) T′
 unfolding answerOver answer

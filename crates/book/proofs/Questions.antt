@@ -14,19 +14,19 @@ use Rattle.book.specs.Edits.{fitness}
 
 pub record Sized (T : Tables) : Type 0 where
   pub blocks : length (T .blocks) ≡ 408
-  pub runs : length (T .runs) ≡ 120
+  pub runs : length (T .runs) ≡ 121
   pub pairs : length (T .pairs) ≡ 28680
   pub routes : length (T .routes) ≡ 4728
 
-pub sized : (b r p s : List ℕ) → length b ≡ 408 → length r ≡ 120 → length p ≡ 28680 → length s ≡ 4728 → Sized (tables b r p s)
+pub sized : (b r p s : List ℕ) → length b ≡ 408 → length r ≡ 121 → length p ≡ 28680 → length s ≡ 4728 → Sized (tables b r p s)
 sized b r p s eb er ep es = record { blocks = eb; runs = er; pairs = ep; routes = es }
 
 pub sized-of : (T : Tables) → lengthsRight T ≡ true → Sized T
 unfolding lengthsRight
 sized-of T h =
-    let a = and-eq-true-iff (eqb (length (T .blocks)) 408 && eqb (length (T .runs)) 120 && eqb (length (T .pairs)) 28680) (eqb (length (T .routes)) 4728) .0 h in
-    let b = and-eq-true-iff (eqb (length (T .blocks)) 408 && eqb (length (T .runs)) 120) (eqb (length (T .pairs)) 28680) .0 (a .0) in
-    let c = and-eq-true-iff (eqb (length (T .blocks)) 408) (eqb (length (T .runs)) 120) .0 (b .0) in
+    let a = and-eq-true-iff (eqb (length (T .blocks)) 408 && eqb (length (T .runs)) 121 && eqb (length (T .pairs)) 28680) (eqb (length (T .routes)) 4728) .0 h in
+    let b = and-eq-true-iff (eqb (length (T .blocks)) 408 && eqb (length (T .runs)) 121) (eqb (length (T .pairs)) 28680) .0 (a .0) in
+    let c = and-eq-true-iff (eqb (length (T .blocks)) 408) (eqb (length (T .runs)) 121) .0 (b .0) in
     record { blocks = eqb-true _ _ (c .0); runs = eqb-true _ _ (c .1); pairs = eqb-true _ _ (b .1); routes = eqb-true _ _ (a .1) }
 
 pub lengths-yes : (T : Tables) → Sized T → lengthsRight T ≡ true

@@ -9,7 +9,7 @@ use Rattle.geometry.specs.Words.{Point, word}
 use Rattle.tables.specs.Tables.{Tables, records, pairIndex, OnRun}
 use Rattle.visibility.specs.Visibility.{Hides, bothPresent, Afresh, BlockPair, RunPair}
 use Rattle.visibility.proofs.Lasting.{onRun-dec, hides-dec, afresh-dec}
-use Rattle.book.specs.Book.{Target, theBlock, theRun, target}
+use Rattle.book.specs.Book.{Target, theBlock, theRun, theFigure, target}
 use Rattle.book.specs.Edits.{Edited}
 use Rattle.book.specs.History.{MayRewrite, RewritesOnly}
 
@@ -43,6 +43,7 @@ rewrites-only e T T′ r c i j h l d = go (ℕ-discrete r 0)
     done : (t : Target) (ps : List Point) → Edited t T ps T′ → MayRewrite t T T′ i j
     done (theBlock n) ps x = block-rewrites T T′ n i j (x .pairs .each i j h l) d
     done (theRun m) ps x = run-rewrites T T′ m i j (x .pairs .each i j h l) d
+    done (theFigure f) ps x = d (ap (λ (ws : List ℕ). word ws (pairIndex i j)) (x .pairs))
 
     go : Dec (r ≡ 0) → MayRewrite (target e) T T′ i j
     go (yes z) = done (target e) _ (c .done z)

@@ -67,4 +67,4 @@ old-rule T d = (
 -- so a yard drawn by the rule before is redrawn with the same bytes
 pub redrawn-same : (b : Book) (T T′ : Tables) → Disjoint (T .blocks) → WasDrawn b T → Drawn b T′ → T′ ≡ T
 redrawn-same b T T′ d w n =
-    drawn-unique b T′ T n (record { sizes = w .sizes; blocks = w .blocks; runs = w .runs; right = old-rule T d .0 (w .right) })
+    drawn-unique b T′ T n (record { sizes = w .sizes; blocks = w .blocks; runs = w .runs; figure = w .figure; right = old-rule T d .0 (w .right) })

@@ -8,7 +8,7 @@ use lib.Dec.{eqb, eqb·suc-zero}
 use lib.ListN.{length, getD, length-append, List·getD-append, List·getD-eq-default}
 use lib.Seq.{getD-at, ext-getD}
 use Rattle.geometry.specs.Words.{Point, word, blockWords, placesFrom, corners}
-use Rattle.tables.specs.Tables.{Records, runWords}
+use Rattle.tables.specs.Tables.{Records, runWords, figureOf}
 use Rattle.tables.proofs.Splices.{block-first, run-first}
 use Rattle.book.specs.Book.{free}
 use Rattle.book.specs.Edits.{upTo, bookOf}
@@ -49,6 +49,10 @@ book-block R n h = upTo-at 24 (λ k. corners (blockWords (R .blocks) k)) n h
 pub book-run : (R : Records) (m : ℕ) → m < 24 → getD (bookOf R .runs) m [] ≡ placesFrom (runWords (R .runs) m) 1 (2 * word (runWords (R .runs) m) 0)
 unfolding bookOf
 book-run R m h = upTo-at 24 (λ k. placesFrom (runWords (R .runs) k) 1 (2 * word (runWords (R .runs) k) 0)) m h
+
+pub book-figure : (R : Records) → bookOf R .figure ≡ figureOf (R .runs)
+unfolding bookOf
+book-figure R = refl
 
 -- questions 4 and 5 look at a record's first word
 free-places : (l : List (List Point)) (n : ℕ) (t : List ℕ) (i c : ℕ) → getD l n [] ≡ placesFrom t i c → free l n ≡ eqb c 0

@@ -8,7 +8,7 @@ use Rattle.geometry.specs.Words.{Point, word}
 use Rattle.tables.specs.Tables.{Records, Tables, pairIndex, records, routeWords, stored, tables}
 use Rattle.visibility.specs.Visibility.{ByPlaces, PairIs}
 use Rattle.routing.specs.Routes.{RouteIs, Routed}
-use Rattle.book.specs.Book.{Book, Edit, Target, target, theBlock, theRun, written}
+use Rattle.book.specs.Book.{Book, Edit, Target, target, theBlock, theFigure, theRun, written}
 use Rattle.book.specs.Drawing.{Drawn, Right}
 use Rattle.book.specs.Edits.{Called, Checked, Edited, Started, bookOf, fitness}
 use Rattle.book.specs.History.{Calls, call, noCalls}
@@ -24,7 +24,7 @@ drawn-unique b T T′ d d′ = λ i. tables (blocks i) (runs i) (pairs i) (route
     blocks = blocks-ext (T .blocks) (T′ .blocks) (d .sizes .0) (d′ .sizes .0) (λ n l. d .blocks n l ∙ sym (d′ .blocks n l))
 
     runs : T .runs ≡ T′ .runs
-    runs = runs-ext (T .runs) (T′ .runs) (d .sizes .1) (d′ .sizes .1) (λ m l. d .runs m l ∙ sym (d′ .runs m l))
+    runs = runs-ext (T .runs) (T′ .runs) (d .sizes .1) (d′ .sizes .1) (λ m l. d .runs m l ∙ sym (d′ .runs m l)) (d .figure ∙ sym (d′ .figure))
 
     same : records T ≡ records T′
     same = λ i. stored (blocks i) (runs i)
@@ -56,6 +56,8 @@ edited-unique (theBlock n) T ps T₁ T₂ e f =
 edited-unique (theRun m) T ps T₁ T₂ e f =
     tables-same T₁ T₂ (e .blocks ∙ sym (f .blocks)) (e .runs ∙ sym (f .runs))
     (λ s. runRedrawn-unique (records T₂) m (T .pairs) (T₁ .pairs) (T₂ .pairs) (rw s at (e .pairs)) (f .pairs)) (e .routes) (f .routes)
+edited-unique (theFigure k) T ps T₁ T₂ e f =
+    tables-same T₁ T₂ (e .blocks ∙ sym (f .blocks)) (e .runs ∙ sym (f .runs)) (λ s. e .pairs ∙ sym (f .pairs)) (rw (e .pairs) (e .routes)) (rw (f .pairs) (f .routes))
 
 pub called-unique : (e : Edit) (T : Tables) (r r′ : ℕ) (T₁ T₂ : Tables) → Called e T r T₁ → Called e T r′ T₂ → (r ≡ r′) × (T₁ ≡ T₂)
 called-unique e T r r′ T₁ T₂ c d = (same-answer, go (ℕ-discrete r 0))

@@ -1,4 +1,4 @@
--- The plain book of blocks and runs, kept from the edits alone. Rules 18, 23 and 24.
+-- The plain book of blocks, runs and the figure, kept from the edits alone. Rules 18, 23 and 24.
 use mathlib.Core.List.{List, [], _∷_, map}
 use mathlib.Core.Bool.{Bool, true, false, _&&_, not}
 use Prim.Native.Nat.{ℕ, zero, suc}
@@ -6,11 +6,11 @@ use lib.IntN.{ℤ}
 use lib.ListN.{getD, set, replicate}
 use Rattle.geometry.specs.Words.{Point}
 use Rattle.geometry.specs.Convexity.{convex}
-use Rattle.records.specs.Questions.{countRight, coordinateRight, placeRight, shiftRight, shifted, lentPlaces}
+use Rattle.records.specs.Questions.{countRight, coordinateRight, placeRight, shiftRight, shifted, lentPlaces, figureRight}
 use Rattle.lists.specs.Lists.{all}
 use Rattle.book.specs.Questions.{Question, ask, firstNo, numberRight}
 
--- the six edits with their arguments; a block's corners come as words, east then north
+-- the seven edits with their arguments; a block's corners come as words, east then north
 pub data Edit : Type 0 where
   addBlock : ℕ → List ℕ → Edit
   removeBlock : ℕ → Edit
@@ -18,14 +18,16 @@ pub data Edit : Type 0 where
   addRun : ℕ → Point → Point → Edit
   removeRun : ℕ → Edit
   moveRun : ℕ → Point → Point → Edit
+  setCharge : ℕ → Edit
 
--- 24 places for blocks, each a list of corners, and 24 for runs, each a list of two ends; an empty place has none
+-- 24 places for blocks, each a list of corners, and 24 for runs, each a list of two ends; an empty place has none; and the figure
 pub record Book : Type 0 where
   pub blocks : List (List Point)
   pub runs : List (List Point)
+  pub figure : ℕ
 
 abbrev pub emptyBook : Book
-emptyBook = record { blocks = replicate 24 []; runs = replicate 24 [] }
+emptyBook = record { blocks = replicate 24 []; runs = replicate 24 []; figure = 0 }
 
 -- place n is empty
 unfoldable pub free : List (List Point) → ℕ → Bool
@@ -41,12 +43,13 @@ questions b (moveBlock n de dn) =
 questions b (addRun m p q) = ask 3 (numberRight m) ∷ ask 4 (free (b .runs) m) ∷ ask 7 (placeRight p && placeRight q) ∷ []
 questions b (removeRun m) = ask 3 (numberRight m) ∷ ask 5 (not (free (b .runs) m)) ∷ []
 questions b (moveRun m p q) = ask 3 (numberRight m) ∷ ask 5 (not (free (b .runs) m)) ∷ ask 7 (placeRight p && placeRight q) ∷ []
+questions b (setCharge f) = ask 13 (figureRight f) ∷ []
 
 -- the book's answer
 unfoldable pub answer : Book → Edit → ℕ
 answer b e = firstNo (questions b e)
 
--- what an accepted edit leaves at the place that it names
+-- what an accepted edit leaves at the place that it names; a figure stands in its target
 unfoldable pub written : Book → Edit → List Point
 written b (addBlock n ws) = lentPlaces ws
 written b (removeBlock n) = []
@@ -54,11 +57,13 @@ written b (moveBlock n de dn) = map (shifted de dn) (getD (b .blocks) n [])
 written b (addRun m p q) = p ∷ q ∷ []
 written b (removeRun m) = []
 written b (moveRun m p q) = p ∷ q ∷ []
+written b (setCharge f) = []
 
--- the place that an edit names
+-- the place that an edit names, or the figure that it sets
 pub data Target : Type 0 where
   theBlock : ℕ → Target
   theRun : ℕ → Target
+  theFigure : ℕ → Target
 
 abbrev pub target : Edit → Target
 target (addBlock n ws) = theBlock n
@@ -67,16 +72,21 @@ target (moveBlock n de dn) = theBlock n
 target (addRun m p q) = theRun m
 target (removeRun m) = theRun m
 target (moveRun m p q) = theRun m
+target (setCharge f) = theFigure f
 
 abbrev pub withBlock : Book → ℕ → List Point → Book
-withBlock b n ps = record { blocks = set (b .blocks) n ps; runs = b .runs }
+withBlock b n ps = record { blocks = set (b .blocks) n ps; runs = b .runs; figure = b .figure }
 
 abbrev pub withRun : Book → ℕ → List Point → Book
-withRun b m ps = record { blocks = b .blocks; runs = set (b .runs) m ps }
+withRun b m ps = record { blocks = b .blocks; runs = set (b .runs) m ps; figure = b .figure }
+
+abbrev pub withFigure : Book → ℕ → Book
+withFigure b f = record { blocks = b .blocks; runs = b .runs; figure = f }
 
 abbrev pub write : Book → Target → List Point → Book
 write b (theBlock n) ps = withBlock b n ps
 write b (theRun m) ps = withRun b m ps
+write b (theFigure f) ps = withFigure b f
 
 -- the book after an edit: refused, it stays
 unfoldable pub step : Book → Edit → Book

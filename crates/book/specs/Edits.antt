@@ -3,16 +3,16 @@ use mathlib.Core.Path.{_≡_}
 use mathlib.Core.List.{List, [], _∷_, _++_}
 use mathlib.Core.Logic.{_⊎_}
 use Prim.Native.Nat.{ℕ, zero, suc, _*_}
-use lib.ListN.{replicate}
+use lib.ListN.{set, replicate}
 use Rattle.geometry.specs.Words.{Point, word, blockWords, placesFrom, corners}
-use Rattle.tables.specs.Tables.{Records, Tables, tables, records, runWords}
+use Rattle.tables.specs.Tables.{Records, Tables, tables, records, runWords, figureOf}
 use Rattle.lists.specs.Lists.{splice}
 use Rattle.tables.specs.Written.{blockRecord, runRecord}
 use Rattle.records.specs.Questions.{recordsRight}
 use Rattle.visibility.specs.Visibility.{BlockRedrawn, RunRedrawn}
 use Rattle.routing.specs.Routes.{Routed}
 use Rattle.book.specs.Questions.{ask, firstNo, lengthsRight}
-use Rattle.book.specs.Book.{Edit, Book, questions, written, Target, theBlock, theRun, target}
+use Rattle.book.specs.Book.{Edit, Book, questions, written, Target, theBlock, theRun, theFigure, target}
 use Rattle.book.specs.Drawing.{Right}
 
 -- the values of f below n, in order
@@ -26,6 +26,7 @@ bookOf R =
     record {
       blocks = upTo 24 (λ n. corners (blockWords (R .blocks) n));
       runs = upTo 24 (λ m. placesFrom (runWords (R .runs) m) 1 (2 * word (runWords (R .runs) m) 0));
+      figure = figureOf (R .runs);
     }
 
 -- questions 1 and 2 alone
@@ -49,10 +50,18 @@ pub record RunEdited (T : Tables) (m : ℕ) (ws : List ℕ) (T′ : Tables) : Ty
   pub pairs : RunRedrawn (records T′) m (T .pairs) (T′ .pairs)
   pub routes : Routed (records T′) (T′ .pairs) (T′ .routes)
 
+-- and where it sets the figure: no pair changes, and every route is that of the new figure
+pub record FigureEdited (T : Tables) (f : ℕ) (T′ : Tables) : Type 0 where
+  pub blocks : T′ .blocks ≡ T .blocks
+  pub runs : T′ .runs ≡ set (T .runs) 120 f
+  pub pairs : T′ .pairs ≡ T .pairs
+  pub routes : Routed (records T′) (T .pairs) (T′ .routes)
+
 -- what an accepted edit leaves where it writes the places ps
 abbrev pub Edited : Target → Tables → List Point → Tables → Type 0
 Edited (theBlock n) T ps T′ = BlockEdited T n (blockRecord ps) T′
 Edited (theRun m) T ps T′ = RunEdited T m (runRecord ps) T′
+Edited (theFigure f) T ps T′ = FigureEdited T f T′
 
 -- the whole contract of a call of an edit: its number, and every table
 pub record Called (e : Edit) (T : Tables) (r : ℕ) (T′ : Tables) : Type 0 where
@@ -62,7 +71,7 @@ pub record Called (e : Edit) (T : Tables) (r : ℕ) (T′ : Tables) : Type 0 whe
 
 -- the empty yard
 unfoldable pub started : Tables
-started = tables (replicate 408 0) (replicate 120 0) (replicate 28680 255) (replicate 4728 0)
+started = tables (replicate 408 0) (replicate 121 0) (replicate 28680 255) (replicate 4728 0)
 
 -- the whole contract of start
 pub record Started (T : Tables) (r : ℕ) (T′ : Tables) : Type 0 where

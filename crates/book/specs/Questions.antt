@@ -21,7 +21,7 @@ firstNo (q ∷ qs) = cond (q .passes) (firstNo qs) (q .number)
 
 -- 1: the four tables are exactly as long as stated
 unfoldable pub lengthsRight : Tables → Bool
-lengthsRight T = eqb (length (T .blocks)) 408 && eqb (length (T .runs)) 120 && eqb (length (T .pairs)) 28680 && eqb (length (T .routes)) 4728
+lengthsRight T = eqb (length (T .blocks)) 408 && eqb (length (T .runs)) 121 && eqb (length (T .pairs)) 28680 && eqb (length (T .routes)) 4728
 
 -- 3: the number is below 24
 abbrev pub numberRight : ℕ → Bool

@@ -25,7 +25,7 @@ place-convex ps vacant = refl
 place-convex ps (standing s) = s .turns
 
 -- records that question 2 allows are what the test of a straight asks
-pub records-sound : (R : Records) → length (R .blocks) ≡ 408 → length (R .runs) ≡ 120 → recordsRight R ≡ true → Sound R
+pub records-sound : (R : Records) → length (R .blocks) ≡ 408 → length (R .runs) ≡ 121 → recordsRight R ≡ true → Sound R
 records-sound R b r e =
     record {
       fit = records-fit R b r e;
@@ -47,20 +47,20 @@ module _ (blocks runs : List ℕ) (m : ℕ) (route : List ℕ) where
   unfolding quoteLengths
   answer-blocks n = short (rw (ne-eqb (length blocks) 408 n) refl)
 
-  pub answer-runs : length blocks ≡ 408 → (length runs ≡ 120 → ⊥) → 1 ≡ A
+  pub answer-runs : length blocks ≡ 408 → (length runs ≡ 121 → ⊥) → 1 ≡ A
   unfolding quoteLengths
-  answer-runs a n = short (rw (eq-eqb (length blocks) 408 a, ne-eqb (length runs) 120 n) refl)
+  answer-runs a n = short (rw (eq-eqb (length blocks) 408 a, ne-eqb (length runs) 121 n) refl)
 
-  pub answer-route : length blocks ≡ 408 → length runs ≡ 120 → (length route ≡ 197 → ⊥) → 1 ≡ A
+  pub answer-route : length blocks ≡ 408 → length runs ≡ 121 → (length route ≡ 197 → ⊥) → 1 ≡ A
   unfolding quoteLengths
-  answer-route a b n = short (rw (eq-eqb (length blocks) 408 a, eq-eqb (length runs) 120 b, ne-eqb (length route) 197 n) refl)
+  answer-route a b n = short (rw (eq-eqb (length blocks) 408 a, eq-eqb (length runs) 121 b, ne-eqb (length route) 197 n) refl)
 
   pub record Long : Type 0 where
     pub blocks-long : length blocks ≡ 408
-    pub runs-long : length runs ≡ 120
+    pub runs-long : length runs ≡ 121
     pub route-long : length route ≡ 197
 
-  pub long : length blocks ≡ 408 → length runs ≡ 120 → length route ≡ 197 → Long
+  pub long : length blocks ≡ 408 → length runs ≡ 121 → length route ≡ 197 → Long
   long a b c = record { blocks-long = a; runs-long = b; route-long = c }
 
   lengths-yes : Long → quoteLengths R route ≡ true
@@ -71,7 +71,7 @@ module _ (blocks runs : List ℕ) (m : ℕ) (route : List ℕ) where
   unfolding quoteLengths
   lengths-of e =
       let p = eqb (length blocks) 408 in
-      let q = eqb (length runs) 120 in
+      let q = eqb (length runs) 121 in
       let a = and-eq-true-iff (p && q) (eqb (length route) 197) .0 e in
       let b = and-eq-true-iff p q .0 (a .0) in
       long (eqb-true _ _ (b .0)) (eqb-true _ _ (b .1)) (eqb-true _ _ (a .1))

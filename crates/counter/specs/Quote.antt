@@ -14,7 +14,7 @@ use Rattle.book.specs.Questions.{ask, firstNo, numberRight}
 
 -- 1: the two tables and the 197 words are exactly as long as stated
 unfoldable pub quoteLengths : Records → List ℕ → Bool
-quoteLengths R route = eqb (length (R .blocks)) 408 && eqb (length (R .runs)) 120 && eqb (length route) 197
+quoteLengths R route = eqb (length (R .blocks)) 408 && eqb (length (R .runs)) 121 && eqb (length route) 197
 
 -- 5: the run is present
 unfoldable pub quoteAnswer : Records → ℕ → List ℕ → ℕ

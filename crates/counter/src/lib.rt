@@ -10,7 +10,7 @@ fn answer(blocks: &[u16], runs: &[u16], number: u32, route: &[u32]) -> u32
     if blocks.len() != 408 {
         return 1;
     }
-    if runs.len() != 120 {
+    if runs.len() != 121 {
         return 1;
     }
     if route.len() != 197 {

@@ -32,7 +32,7 @@ chain-below R Clear end (last e) a b (suc (suc i)) h = absurd (omega arith)
 chain-below R Clear end (more n e ch) a b zero h = a
 chain-below R Clear end (more {u = u} n e ch) a b (suc i) h = chain-below R Clear end ch (omega (arith, corner-below (R .blocks) u n)) b i (omega arith)
 
-module _ (R : Records) (Clear : ℕ → ℕ → Type 0) (m : ℕ) (l : m < 24) (eb : length (R .blocks) ≡ 408) (er : length (R .runs) ≡ 120) where
+module _ (R : Records) (Clear : ℕ → ℕ → Type 0) (m : ℕ) (l : m < 24) (eb : length (R .blocks) ≡ 408) (er : length (R .runs) ≡ 121) where
   counted : {ws : List ℕ} → RouteIs R Clear m ws → word ws 2 ≤ 194
   counted (noRun e) = omega arith
   counted (found e us r) = route-short R Clear m us r

@@ -18,12 +18,12 @@ use Rattle.duct_trials.proofs.Checker.{Judges}
 abbrev pub S : List Point
 S = point 10 10 ∷ point 20 10 ∷ point 20 20 ∷ point 10 20 ∷ []
 
--- the 408 words of the block table, and the 120 of the run table
+-- the 408 words of the block table, and the 121 of the run table
 unfoldable pub blocksS : List ℕ
 blocksS = 4 ∷ 10 ∷ 10 ∷ 20 ∷ 10 ∷ 20 ∷ 20 ∷ 10 ∷ 20 ∷ replicate 399 0
 
 unfoldable pub oneRun : Point → Point → List ℕ
-oneRun p q = 1 ∷ p .east ∷ p .north ∷ q .east ∷ q .north ∷ replicate 115 0
+oneRun p q = 1 ∷ p .east ∷ p .north ∷ q .east ∷ q .north ∷ replicate 116 0
 
 -- S, and run 0 from p to q
 abbrev pub yard : Point → Point → Records

@@ -47,25 +47,25 @@ module _ (blocks runs : List ℕ) (m : ℕ) (quote crossings : List ℕ) where
   unfolding ductLengths
   answer-blocks n = short (rw (ne-eqb (length blocks) 408 n) refl)
 
-  pub answer-runs : length blocks ≡ 408 → (length runs ≡ 120 → ⊥) → 1 ≡ A
+  pub answer-runs : length blocks ≡ 408 → (length runs ≡ 121 → ⊥) → 1 ≡ A
   unfolding ductLengths
-  answer-runs a n = short (rw (eq-eqb (length blocks) 408 a, ne-eqb (length runs) 120 n) refl)
+  answer-runs a n = short (rw (eq-eqb (length blocks) 408 a, ne-eqb (length runs) 121 n) refl)
 
-  pub answer-quote : length blocks ≡ 408 → length runs ≡ 120 → (length quote ≡ 3 → ⊥) → 1 ≡ A
+  pub answer-quote : length blocks ≡ 408 → length runs ≡ 121 → (length quote ≡ 3 → ⊥) → 1 ≡ A
   unfolding ductLengths
-  answer-quote a b n = short (rw (eq-eqb (length blocks) 408 a, eq-eqb (length runs) 120 b, ne-eqb (length quote) 3 n) refl)
+  answer-quote a b n = short (rw (eq-eqb (length blocks) 408 a, eq-eqb (length runs) 121 b, ne-eqb (length quote) 3 n) refl)
 
-  pub answer-crossings : length blocks ≡ 408 → length runs ≡ 120 → length quote ≡ 3 → (length crossings ≡ 8712 → ⊥) → 1 ≡ A
+  pub answer-crossings : length blocks ≡ 408 → length runs ≡ 121 → length quote ≡ 3 → (length crossings ≡ 8712 → ⊥) → 1 ≡ A
   unfolding ductLengths
-  answer-crossings a b c n = short (rw (eq-eqb (length blocks) 408 a, eq-eqb (length runs) 120 b, eq-eqb (length quote) 3 c, ne-eqb (length crossings) 8712 n) refl)
+  answer-crossings a b c n = short (rw (eq-eqb (length blocks) 408 a, eq-eqb (length runs) 121 b, eq-eqb (length quote) 3 c, ne-eqb (length crossings) 8712 n) refl)
 
   pub record Long : Type 0 where
     pub blocks-long : length blocks ≡ 408
-    pub runs-long : length runs ≡ 120
+    pub runs-long : length runs ≡ 121
     pub quote-long : length quote ≡ 3
     pub crossings-long : length crossings ≡ 8712
 
-  pub long : length blocks ≡ 408 → length runs ≡ 120 → length quote ≡ 3 → length crossings ≡ 8712 → Long
+  pub long : length blocks ≡ 408 → length runs ≡ 121 → length quote ≡ 3 → length crossings ≡ 8712 → Long
   long a b c d = record { blocks-long = a; runs-long = b; quote-long = c; crossings-long = d }
 
   lengths-yes : Long → ductLengths R quote crossings ≡ true
@@ -117,7 +117,7 @@ module _ (blocks runs : List ℕ) (m : ℕ) (quote crossings : List ℕ) where
   unfolding ductLengths
   lengths-of e =
       let p = eqb (length blocks) 408 in
-      let q = eqb (length runs) 120 in
+      let q = eqb (length runs) 121 in
       let r = eqb (length quote) 3 in
       let a = and-eq-true-iff (p && q && r) (eqb (length crossings) 8712) .0 e in
       let b = and-eq-true-iff (p && q) r .0 (a .0) in

@@ -49,7 +49,7 @@ standing blocks (suc n) = cond (ltb 0 (word blocks (17 * n))) 1 0 + standing blo
 
 -- 1: the two tables and the two lists are exactly as long as stated
 unfoldable pub ductLengths : Records → List ℕ → List ℕ → Bool
-ductLengths R quote crossings = eqb (length (R .blocks)) 408 && eqb (length (R .runs)) 120 && eqb (length quote) 3 && eqb (length crossings) 8712
+ductLengths R quote crossings = eqb (length (R .blocks)) 408 && eqb (length (R .runs)) 121 && eqb (length quote) 3 && eqb (length crossings) 8712
 
 -- 5: the run is present; 12: at most 8 blocks stand
 unfoldable pub ductAnswer : Records → ℕ → List ℕ → List ℕ → ℕ

@@ -98,7 +98,7 @@ fn answer(blocks: &[u16], runs: &[u16], number: u32, quote: &[u32], crossings: &
     if blocks.len() != 408 {
         return 1;
     }
-    if runs.len() != 120 {
+    if runs.len() != 121 {
         return 1;
     }
     if quote.len() != 3 {

@@ -1,22 +1,21 @@
--- Whether two keys differ by a straight whose length is known before it is tested.
+-- Whether two keys differ by a straight whose cost is known before it is tested.
 use mathlib.Core.Path.{_≡_}
 use mathlib.Core.Bool.{Bool, false}
 use Prim.Native.Nat.{ℕ, _-_, _/_, _%_, _<_}
 use native.Mathlib.Omega.{arith}
 use Rattle.lists.specs.inner.Tells.{Tells}
 use Rattle.lists.proofs.Telling.{tells-no}
-use Rattle.lengths.specs.Length.{rootUp}
 use Rattle.tables.specs.Tables.{Records}
 use Rattle.search.specs.Network.{cost, graph}
 use Rattle.routing.specs.inner.Walking.{TightKey}
 
-module _ (R : Records) (Clear : ℕ → ℕ → Type 0) (v u kv ku n : ℕ) (l : ku < kv) (e : cost R v u ≡ rootUp n) where
-  pub loose-length : (rootUp n ≡ (kv - ku) / 256 → ⊥) → Tells (TightKey (graph R Clear) v u kv ku) false
-  loose-length h = tells-no (λ t. h (omega (arith, t .sum)))
+module _ (R : Records) (Clear : ℕ → ℕ → Type 0) (v u kv ku x : ℕ) (l : ku < kv) (e : cost R v u ≡ x) where
+  pub loose-cost : (x ≡ (kv - ku) / 256 → ⊥) → Tells (TightKey (graph R Clear) v u kv ku) false
+  loose-cost h = tells-no (λ t. h (omega (arith, t .sum)))
 
-  pub by-sight : (t : Bool) → (v ≡ u → kv ≡ ku) → (kv - ku) % 256 ≡ 1 → rootUp n ≡ (kv - ku) / 256 → Tells (Clear v u) t → Tells (TightKey (graph R Clear) v u kv ku) t
+  pub by-sight : (t : Bool) → (v ≡ u → kv ≡ ku) → (kv - ku) % 256 ≡ 1 → x ≡ (kv - ku) / 256 → Tells (Clear v u) t → Tells (TightKey (graph R Clear) v u kv ku) t
   by-sight t d o q s =
       record {
         yes′ = λ y. record { edge = (λ (w : v ≡ u). omega (arith, d w), s .yes′ y); sum = omega arith };
-        no′ = λ y x. s .no′ y (x .edge .1);
+        no′ = λ y z. s .no′ y (z .edge .1);
       }

@@ -59,13 +59,14 @@ fn tight(
     if more % 256 != 1 {
         return false;
     }
-    let length = (more / 256) as u64;
+    let cost = (more / 256) as u64;
     let b = place_of(blocks, runs, u);
     let square = lengths::squared(a, b);
-    if length * length < square {
+    let figure = tables::figure_of(runs);
+    if lengths::dearer(figure, square, cost) {
         return false;
     }
-    if lengths::root_up(square) != length {
+    if lengths::charge(figure, square) != cost {
         return false;
     }
     sight::sees(blocks, runs, near, last, v, a, u, b)

@@ -5,13 +5,14 @@ use mathlib.Core.List.{List}
 use Prim.Native.Nat.{ℕ, _+_, _*_, _-_, _≤_, _<_}
 use native.Mathlib.Decide.{ℕ-discrete, decLt}
 use native.Mathlib.Omega.{arith}
-use lib.ListN.{length, set, length-set}
+use lib.ListN.{set, length-set}
 use lib.Seq.{getD-set-same, getD-set-other}
 use Rattle.paths.specs.Path.{Graph}
 use Rattle.paths.specs.inner.LowerBound.{ConsistentBound}
 use Rattle.geometry.specs.Words.{Point, word}
 use Rattle.lengths.specs.Length.{gap, lengthOf}
-use Rattle.tables.specs.Tables.{Records, placeOf, firstEnd, secondEnd}
+use Rattle.lengths.specs.Charge.{charge}
+use Rattle.tables.specs.Tables.{Records, figureOf, placeOf, firstEnd, secondEnd}
 use Rattle.tables.specs.inner.Fit.{Fit}
 use Rattle.visibility.specs.Visibility.{ByPlaces}
 use Rattle.search.specs.Network.{cost}
@@ -32,10 +33,10 @@ length-sym : (p q : Point) → lengthOf p q ≡ lengthOf q p
 unfolding lengthOf
 length-sym p q = rw (gap-sym (p .east) (q .east), gap-sym (p .north) (q .north)) refl
 
--- the length of a straight is the same both ways round
+-- what a straight costs is the same both ways round
 cost-sym : (R : Records) (v u : ℕ) → cost R v u ≡ cost R u v
 unfolding cost
-cost-sym R v u = length-sym (placeOf R v) (placeOf R u)
+cost-sym R v u = ap (charge (figureOf (R .runs))) (length-sym (placeOf R v) (placeOf R u))
 
 module _ (R : Records) (m : ℕ) (f : Fit R) (l : m < 24) where
   base : Sized (straights R) (firstEnd m) (secondEnd m)

@@ -72,13 +72,14 @@ fn improved(
     }
     let most = ((old - ks - 2) / 256) as u64;
     let square = lengths::squared(a, b);
-    if most * most < square {
+    let figure = tables::figure_of(runs);
+    if lengths::dearer(figure, square, most) {
         return old;
     }
     if !sight::sees(blocks, runs, near, last, v, a, s, b) {
         return old;
     }
-    256 * lengths::root_up(square) as u32 + 1 + ks
+    256 * lengths::charge(figure, square) as u32 + 1 + ks
 }
 
 // The least key of mark v by a clear straight to a mark at the places from lo on and before hi, the last of them first.

@@ -50,7 +50,7 @@ fn coordinate(p: Place, east: bool) -> u16
 
 // Puts the line through mark i into the list.
 fn add_mark(blocks: &[u16], runs: &[u16], i: usize, east: bool, list: &mut [u16], n: usize) -> usize
-    requires { ⌜ (length (now blocks) ≡ 408) × (length (now runs) ≡ 120) × (i < 240) ⌝ }
+    requires { ⌜ (length (now blocks) ≡ 408) × (length (now runs) ≡ 121) × (i < 240) ⌝ }
     requires { ⌜ (n < length (now list)) × (Rising 0 (take n (now list))) ⌝ }
     ensures { λ r. ⌜ Lined (now (list .entry)) n (coordinate east (placeOf (stored (now (blocks .entry)) (now (runs .entry))) i)) (now (list .exit)) r ⌝ }
 {
@@ -60,7 +60,7 @@ fn add_mark(blocks: &[u16], runs: &[u16], i: usize, east: bool, list: &mut [u16]
 
 // Lists the lines of run m in one direction, and answers how many there are.
 pub fn lines_of(blocks: &[u16], runs: &[u16], m: usize, east: bool, list: &mut [u16]) -> usize
-    requires { ⌜ (length (now blocks) ≡ 408) × (length (now runs) ≡ 120) × (m < 24) × (length (now list) ≡ 194) ⌝ }
+    requires { ⌜ (length (now blocks) ≡ 408) × (length (now runs) ≡ 121) × (m < 24) × (length (now list) ≡ 194) ⌝ }
     ensures { λ r. ⌜ Collected (lines (stored (now (blocks .entry)) (now (runs .entry))) m east) (now (list .exit)) r ⌝ }
 {
     let mut n = 0;

@@ -1,20 +1,20 @@
 -- The answers of the tests, one law for each way out of the code.
 use mathlib.Core.Path.{_≡_, sym, _∙_}
 use mathlib.Core.List.{List, [], _∷_}
-use mathlib.Core.Bool.{Bool, true, false}
+use mathlib.Core.Bool.{Bool, true, false, not}
 use Prim.Native.Nat.{ℕ, _+_, _*_, _-_, _%_, _<_, _≤_}
 use native.Mathlib.Omega.{arith}
 use lib.Dec.{eqb}
 use lib.ListN.{length, take, drop}
-use borrow.Author.Tests.{le-leb, lt-leb, eq-eqb, ne-eqb}
+use borrow.Author.Tests.{le-leb, lt-leb, eq-eqb, ne-eqb, not-true, not-false}
 use Rattle.geometry.proofs.Searching.{part-is}
 use Rattle.geometry.specs.Words.{Point, word, blockWords, corners}
 use Rattle.geometry.specs.inner.Bounds.{BoundedRecord}
 use Rattle.geometry.specs.Convexity.{convex}
 use Rattle.lists.specs.Lists.{allBelow, all}
-use Rattle.tables.specs.Tables.{stored, runWords}
+use Rattle.tables.specs.Tables.{stored, runWords, figureOf}
 use Rattle.tables.proofs.Splices.{part-length}
-use Rattle.records.specs.Questions.{countRight, coordinateRight, placeRight, zeroFrom, blockRight, runRight, recordsRight}
+use Rattle.records.specs.Questions.{countRight, coordinateRight, placeRight, zeroFrom, blockRight, runRight, figureRight, recordsRight}
 use Rattle.records.proofs.Loops.{right-bound}
 
 module _ (ws : List ℕ) where
@@ -92,7 +92,7 @@ run-lent t m = let e : 5 * m + 5 - 5 * m ≡ 5 = omega arith in rw e
 pub block-lent-length : (t : List ℕ) (n : ℕ) → length t ≡ 408 → n < 24 → length (take (17 * n + 17 - 17 * n) (drop (17 * n) t)) ≡ 17
 block-lent-length t n l h = rw (part-is t n) (part-length t (17 * n) 17 (omega arith))
 
-pub run-lent-length : (t : List ℕ) (m : ℕ) → length t ≡ 120 → m < 24 → length (take (5 * m + 5 - 5 * m) (drop (5 * m) t)) ≡ 5
+pub run-lent-length : (t : List ℕ) (m : ℕ) → length t ≡ 121 → m < 24 → length (take (5 * m + 5 - 5 * m) (drop (5 * m) t)) ≡ 5
 run-lent-length t m l h = rw (run-lent t m) (part-length t (5 * m) 5 (omega arith))
 
 pub block-answer : (t : List ℕ) (n : ℕ) (r v : Bool) → r ≡ blockRight (take (17 * n + 17 - 17 * n) (drop (17 * n) t)) → r ≡ v → blockRight (blockWords t n) ≡ v
@@ -102,11 +102,15 @@ pub run-answer : (t : List ℕ) (m : ℕ) (r v : Bool) → r ≡ runRight (take 
 run-answer t m r v e h = rw (← (run-lent t m)) (sym e ∙ h)
 
 module _ (blocks runs : List ℕ) where
-  pub records-yes : (t r : Bool) → t ≡ allBelow 24 (λ n. blockRight (blockWords blocks n)) → t ≡ true → r ≡ allBelow 24 (λ m. runRight (runWords runs m))
-      → r ≡ recordsRight (stored blocks runs)
+  pub blocks-no : (t : Bool) → t ≡ allBelow 24 (λ n. blockRight (blockWords blocks n)) → not t ≡ true → false ≡ recordsRight (stored blocks runs)
   unfolding recordsRight
-  records-yes t r e h g = rw (sym e ∙ h) g
+  blocks-no t e h = rw (sym e ∙ not-true t h)
 
-  pub records-no : (t : Bool) → t ≡ allBelow 24 (λ n. blockRight (blockWords blocks n)) → t ≡ false → false ≡ recordsRight (stored blocks runs)
-  unfolding recordsRight
-  records-no t e h = rw (sym e ∙ h)
+  module _ (t : Bool) (e : t ≡ allBelow 24 (λ n. blockRight (blockWords blocks n))) (h : not t ≡ false) (s : Bool) (g : s ≡ allBelow 24 (λ m. runRight (runWords runs m))) where
+    pub runs-no : not s ≡ true → false ≡ recordsRight (stored blocks runs)
+    unfolding recordsRight
+    runs-no k = rw (sym e ∙ not-false t h, sym g ∙ not-true s k)
+
+    pub by-figure : not s ≡ false → (f : ℕ) → f ≡ figureOf runs → (r : Bool) → r ≡ figureRight f → r ≡ recordsRight (stored blocks runs)
+    unfolding recordsRight
+    by-figure k f o r q = rw (sym e ∙ not-false t h, sym g ∙ not-false s k, ← o) q

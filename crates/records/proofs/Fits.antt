@@ -16,10 +16,10 @@ use Rattle.geometry.specs.Convexity.{convex}
 use Rattle.lists.specs.Lists.{allBelow, all}
 use Rattle.lists.proofs.Below.{all-at}
 use Rattle.lists.proofs.Every.{both, or-cases}
-use Rattle.tables.specs.Tables.{Records, runWords}
+use Rattle.tables.specs.Tables.{Records, runWords, figureOf}
 use Rattle.tables.specs.inner.Fit.{Fit}
 use Rattle.tables.proofs.Splices.{part-length, word-in, block-first, run-first}
-use Rattle.records.specs.Questions.{coordinateRight, zeroFrom, blockRight, runRight, recordsRight}
+use Rattle.records.specs.Questions.{coordinateRight, zeroFrom, blockRight, runRight, figureRight, recordsRight}
 use Rattle.records.proofs.Loops.{right-bound, zero-word}
 
 -- a word of the rest of a record
@@ -84,16 +84,25 @@ run-fit ws l h = go (run-cases ws h)
         (omega (arith, e 0 (omega arith)), λ i b. omega (arith, e i b))
     go (inr s) = (omega (arith, s .0), λ i b. rest-bound ws i (omega (arith, s .0)) (s .1) (omega arith))
 
-module _ (R : Records) (blocks : length (R .blocks) ≡ 408) (runs : length (R .runs) ≡ 120) (right : recordsRight R ≡ true) where
-  halves : (allBelow 24 (λ n. blockRight (blockWords (R .blocks) n)) ≡ true) × (allBelow 24 (λ m. runRight (runWords (R .runs) m)) ≡ true)
+module _ (R : Records) (blocks : length (R .blocks) ≡ 408) (runs : length (R .runs) ≡ 121) (right : recordsRight R ≡ true) where
+  abbrev blocks-right : Bool
+  blocks-right = allBelow 24 (λ n. blockRight (blockWords (R .blocks) n))
+
+  abbrev runs-right : Bool
+  runs-right = allBelow 24 (λ m. runRight (runWords (R .runs) m))
+
+  parts : (blocks-right && runs-right ≡ true) × (figureRight (figureOf (R .runs)) ≡ true)
   unfolding recordsRight
-  halves = both (allBelow 24 (λ n. blockRight (blockWords (R .blocks) n))) (allBelow 24 (λ m. runRight (runWords (R .runs) m))) right
+  parts = both (blocks-right && runs-right) _ right
+
+  pub figure-allowed : figureOf (R .runs) ≤ 1000
+  figure-allowed = leb-true _ 1000 (parts .1)
 
   pub block-allowed : (n : ℕ) → n < 24 → blockRight (blockWords (R .blocks) n) ≡ true
-  block-allowed n h = all-at (λ k. blockRight (blockWords (R .blocks) k)) 24 n (halves .0) h
+  block-allowed n h = all-at (λ k. blockRight (blockWords (R .blocks) k)) 24 n (both blocks-right runs-right (parts .0) .0) h
 
   pub run-allowed : (m : ℕ) → m < 24 → runRight (runWords (R .runs) m) ≡ true
-  run-allowed m h = all-at (λ k. runRight (runWords (R .runs) k)) 24 m (halves .1) h
+  run-allowed m h = all-at (λ k. runRight (runWords (R .runs) k)) 24 m (both blocks-right runs-right (parts .0) .1) h
 
   pub record-bounded : (n : ℕ) → n < 24 → BoundedRecord (blockWords (R .blocks) n)
   record-bounded n h = block-fit (blockWords (R .blocks) n) (part-length (R .blocks) (17 * n) 17 (omega arith)) (block-allowed n h)
@@ -117,5 +126,6 @@ module _ (R : Records) (blocks : length (R .blocks) ≡ 408) (runs : length (R .
           coordinates = λ i h.
               rw (word-in (R .runs) (5 * (i / 5)) 5 i (omega arith) (omega arith))
               (run-bounded (i / 5) (omega arith) .1 (i - 5 * (i / 5)) (omega arith));
+          figure = figure-allowed;
         };
       }

@@ -1,4 +1,4 @@
--- Questions 2, 6, 7 and 8 as tests of words and places. Rules 1 and 16.
+-- Questions 2, 6, 7, 8 and 13 as tests of words and places. Rules 1, 3 and 16.
 use mathlib.Core.List.{List}
 use mathlib.Core.Bool.{Bool, _&&_, _||_}
 use Prim.Native.Nat.{ℕ, _+_, _*_, _/_, _%_}
@@ -9,7 +9,7 @@ use lib.ListN.{length, drop}
 use Rattle.geometry.specs.Words.{Point, point, word, blockWords, placesFrom, corners}
 use Rattle.geometry.specs.Convexity.{convex}
 use Rattle.lists.specs.Lists.{all, allBelow}
-use Rattle.tables.specs.Tables.{Records, runWords}
+use Rattle.tables.specs.Tables.{Records, runWords, figureOf}
 
 -- 6: whole corners, 3 to 8 of them
 unfoldable pub countRight : List ℕ → Bool
@@ -50,5 +50,10 @@ blockRight ws =
 unfoldable pub runRight : List ℕ → Bool
 runRight ws = zeroFrom ws 0 || (eqb (word ws 0) 1 && all coordinateRight (drop 1 ws))
 
+-- 13, and 2 of the stored one: the figure is at most 1,000
+abbrev pub figureRight : ℕ → Bool
+figureRight f = leb f 1000
+
 unfoldable pub recordsRight : Records → Bool
-recordsRight R = allBelow 24 (λ n. blockRight (blockWords (R .blocks) n)) && allBelow 24 (λ m. runRight (runWords (R .runs) m))
+recordsRight R =
+    allBelow 24 (λ n. blockRight (blockWords (R .blocks) n)) && allBelow 24 (λ m. runRight (runWords (R .runs) m)) && figureRight (figureOf (R .runs))

@@ -1,4 +1,4 @@
-// Questions 2, 6, 7 and 8, and the record of a new block.
+// Questions 2, 6, 7, 8 and 13, and the record of a new block.
 ghost use mathlib.Core.Path.{_≡_};
 ghost use mathlib.Core.Bool.{true};
 ghost use Prim.Native.Nat.{_+_, _*_, _<_};
@@ -7,9 +7,10 @@ ghost use Rattle.geometry.specs.Words.{pointOf, blockWords, corners};
 ghost use Rattle.lists.specs.Lists.{allBelow, all};
 ghost use Rattle.tables.specs.Tables.{stored, runWords};
 ghost use Rattle.tables.specs.Written.{blockRecord};
-ghost use Rattle.records.specs.Questions.{countRight, coordinateRight, placeRight, lentPlaces, zeroFrom, blockRight, runRight, recordsRight};
+ghost use Rattle.records.specs.Questions.{countRight, coordinateRight, placeRight, lentPlaces, zeroFrom, blockRight, runRight, figureRight, recordsRight};
 use geometry::Place;
 use geometry::is_convex;
+use tables::figure_of;
 
 // Question 6: whether the lent words are 3 to 8 whole corners.
 pub fn count_right(corners: &[u16]) -> bool
@@ -119,7 +120,7 @@ fn blocks_right(blocks: &[u16]) -> bool
 
 // Question 2 of the run table.
 fn runs_right(runs: &[u16]) -> bool
-    requires { ⌜ length (now runs) ≡ 120 ⌝ }
+    requires { ⌜ length (now runs) ≡ 121 ⌝ }
     ensures { λ r. ⌜ r ≡ allBelow 24 (λ m. runRight (runWords (now (runs .entry)) m)) ⌝ }
 {
     let mut m = 0;
@@ -133,15 +134,25 @@ fn runs_right(runs: &[u16]) -> bool
     true
 }
 
+// Question 13, and question 2 of the stored figure.
+pub fn figure_right(figure: u64) -> bool
+    ensures { λ r. ⌜ r ≡ figureRight figure ⌝ }
+{
+    figure <= 1000
+}
+
 // Question 2.
 pub fn records_right(blocks: &[u16], runs: &[u16]) -> bool
-    requires { ⌜ (length (now blocks) ≡ 408) × (length (now runs) ≡ 120) ⌝ }
+    requires { ⌜ (length (now blocks) ≡ 408) × (length (now runs) ≡ 121) ⌝ }
     ensures { λ r. ⌜ r ≡ recordsRight (stored (now (blocks .entry)) (now (runs .entry))) ⌝ }
 {
-    if blocks_right(blocks) {
-        return runs_right(runs);
+    if !blocks_right(blocks) {
+        return false;
     }
-    false
+    if !runs_right(runs) {
+        return false;
+    }
+    figure_right(figure_of(runs))
 }
 
 // The record of a new block.

@@ -1,16 +1,14 @@
 -- Whether two keys differ by a straight.
-use mathlib.Core.Path.{_≡_}
-use mathlib.Core.Bool.{false}
-use Prim.Native.Nat.{ℕ, _*_, _-_, _/_, _%_, _<_, _≤_}
+use mathlib.Core.Path.{_≡_, sym, _∙_}
+use mathlib.Core.Bool.{Bool, true, false}
+use Prim.Native.Nat.{ℕ, _-_, _/_, _%_, _<_, _≤_}
 use native.Mathlib.Omega.{arith}
-use lib.Dec.{eqb}
-use borrow.Author.Tests.{eqb-true, eqb-false}
+use lib.Dec.{ltb, eqb}
+use borrow.Author.Tests.{ltb-true, eqb-true, eqb-false}
 use Rattle.lists.specs.inner.Tells.{Tells}
 use Rattle.lists.proofs.Telling.{tells-no}
-use Rattle.lengths.specs.Length.{rootUp}
 use Rattle.tables.specs.Tables.{Records}
 use Rattle.search.specs.Network.{cost, graph}
-use Rattle.search.proofs.Steps.{root-beyond}
 use Rattle.routing.specs.inner.Walking.{TightKey}
 
 module _ (R : Records) (Clear : ℕ → ℕ → Type 0) (v u kv ku : ℕ) where
@@ -23,14 +21,14 @@ module _ (R : Records) (Clear : ℕ → ℕ → Type 0) (v u kv ku : ℕ) where
   pub loose-hidden : (Clear v u → ⊥) → Tells (TightKey (graph R Clear) v u kv ku) false
   loose-hidden h = tells-no (λ t. h (t .edge .1))
 
-  pub loose-long : (n : ℕ) → ku < kv → cost R v u ≡ rootUp n → (kv - ku) / 256 * ((kv - ku) / 256) < n
-      → Tells (TightKey (graph R Clear) v u kv ku) false
-  loose-long n l e h = let g = root-beyond n ((kv - ku) / 256) h in tells-no (λ t. omega (arith, t .sum))
+  -- by the straight's cost x, and whether that is more than the keys differ by
+  pub loose-dear : (x : ℕ) (t : Bool) → ku < kv → cost R v u ≡ x → t ≡ ltb ((kv - ku) / 256) x → t ≡ true → Tells (TightKey (graph R Clear) v u kv ku) false
+  loose-dear x t l e d h = let g = ltb-true ((kv - ku) / 256) x (sym d ∙ h) in tells-no (λ y. omega (arith, y .sum))
 
-  pub by-length : (n : ℕ) → (v ≡ u → kv ≡ ku) → ku < kv → (kv - ku) % 256 ≡ 1 → Clear v u → cost R v u ≡ rootUp n
-      → Tells (TightKey (graph R Clear) v u kv ku) (eqb (rootUp n) ((kv - ku) / 256))
-  by-length n d l o e k =
+  pub by-cost : (x : ℕ) → (v ≡ u → kv ≡ ku) → ku < kv → (kv - ku) % 256 ≡ 1 → Clear v u → cost R v u ≡ x
+      → Tells (TightKey (graph R Clear) v u kv ku) (eqb x ((kv - ku) / 256))
+  by-cost x d l o e k =
       record {
-        yes′ = λ t. record { edge = (λ (q : v ≡ u). omega (arith, d q), e); sum = omega (arith, eqb-true (rootUp n) ((kv - ku) / 256) t) };
-        no′ = λ t x. eqb-false (rootUp n) ((kv - ku) / 256) t (omega (arith, x .sum));
+        yes′ = λ t. record { edge = (λ (q : v ≡ u). omega (arith, d q), e); sum = omega (arith, eqb-true x ((kv - ku) / 256) t) };
+        no′ = λ t y. eqb-false x ((kv - ku) / 256) t (omega (arith, y .sum));
       }

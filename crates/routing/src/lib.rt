@@ -27,15 +27,16 @@ fn tight(blocks: &[u16], runs: &[u16], pairs: &[u8], v: usize, u: usize, kv: u32
     if tables::pair_byte(pairs, v, u) != 254 {
         return false;
     }
-    let length = (more / 256) as u64;
+    let cost = (more / 256) as u64;
     let square = lengths::squared(
         tables::place_of(blocks, runs, v),
         tables::place_of(blocks, runs, u),
     );
-    if length * length < square {
+    let figure = tables::figure_of(runs);
+    if lengths::dearer(figure, square, cost) {
         return false;
     }
-    lengths::root_up(square) == length
+    lengths::charge(figure, square) == cost
 }
 
 // The lowest mark after v by the keys.

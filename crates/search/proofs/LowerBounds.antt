@@ -11,7 +11,8 @@ use Rattle.paths.specs.inner.LowerBound.{ConsistentBound}
 use Rattle.geometry.specs.Words.{Point, word}
 use Rattle.lengths.specs.Length.{gap, squared, lengthOf}
 use Rattle.lengths.proofs.Roots.{root-is}
-use Rattle.tables.specs.Tables.{Records, placeOf}
+use Rattle.lengths.proofs.Charges.{charge-least}
+use Rattle.tables.specs.Tables.{Records, figureOf, placeOf}
 use Rattle.search.specs.Network.{cost, graph}
 use Rattle.search.specs.inner.LowerBound.{projection, atLeast, lowerBound}
 use Rattle.search.specs.inner.Keys.{Looked}
@@ -71,7 +72,7 @@ none-here p = rw (no-gap (p .east), no-gap (p .north)) refl
 
 pub bound-consistent : (R : Records) (Clear : ℕ → ℕ → Type 0) (start : ℕ) → ConsistentBound (graph R Clear) start (lowerBound R start)
 unfolding lowerBound cost
-bound-consistent R Clear start = record { none = none-here (placeOf R start); step = λ v u. grows (placeOf R start) (placeOf R v) (placeOf R u) }
+bound-consistent R Clear start = record { none = none-here (placeOf R start); step = λ v u. omega (arith, grows (placeOf R start) (placeOf R v) (placeOf R u), charge-least (figureOf (R .runs)) (lengthOf (placeOf R v) (placeOf R u))) }
 
 -- what the code computes
 

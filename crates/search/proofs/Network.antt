@@ -1,18 +1,20 @@
--- The graph that a run is routed in: where its marks are numbered, and how long its straights are.
-use mathlib.Core.Path.{_≡_}
+-- The graph that a run is routed in: where its marks are numbered, what its straights cost, and that this is their length where the figure is 0.
+use mathlib.Core.Path.{_≡_, ap}
 use mathlib.Core.Bool.{true, and-eq-true-iff}
 use mathlib.Core.List.{List}
 use Prim.Native.Nat.{ℕ, _*_, _%_, _/_, _<_, _≤_}
 use native.Mathlib.Omega.{arith}
 use lib.Dec.{ltb}
 use borrow.Author.Tests.{ltb-true}
-use Rattle.paths.specs.Path.{Graph}
+use Rattle.paths.specs.Path.{Graph, total, IsRoute}
 use Rattle.geometry.specs.Words.{word}
+use Rattle.lengths.specs.Length.{lengthOf}
 use Rattle.lengths.proofs.Roots.{length-bound}
-use Rattle.tables.specs.Tables.{Records, isCorner, placeOf, firstEnd, secondEnd}
+use Rattle.lengths.proofs.Charges.{charge-bound, charge-plain}
+use Rattle.tables.specs.Tables.{Records, figureOf, isCorner, placeOf, firstEnd, secondEnd}
 use Rattle.tables.specs.inner.Fit.{Fit}
 use Rattle.tables.proofs.Marks.{place-in-range}
-use Rattle.search.specs.Network.{cost, graph}
+use Rattle.search.specs.Network.{cost, graph, plainGraph}
 
 pub corner-below : (blocks : List ℕ) (u : ℕ) → isCorner blocks u ≡ true → u < 192
 unfolding isCorner
@@ -33,10 +35,26 @@ unfolding cost
 sized R Clear m f l =
     record {
       inner-below = corner-below (R .blocks);
-      cost-small = λ v u a b. length-bound (placeOf R v) (placeOf R u) (place-in-range R v f a) (place-in-range R u f b);
+      cost-small = λ v u a b. charge-bound (figureOf (R .runs)) _ 46340 (omega (arith, f .runs .figure)) (length-bound (placeOf R v) (placeOf R u) (place-in-range R v f a) (place-in-range R u f b));
       start-above = omega arith;
       start-below = omega arith;
       end-above = omega arith;
       end-below = omega arith;
       apart = λ e. omega arith;
     }
+
+-- under the figure 0 the graph is that of the lengths
+module _ (R : Records) (Clear : ℕ → ℕ → Type 0) (none : figureOf (R .runs) ≡ 0) where
+  cost-plain : (v u : ℕ) → cost R v u ≡ lengthOf (placeOf R v) (placeOf R u)
+  unfolding cost
+  cost-plain v u = rw none (charge-plain (lengthOf (placeOf R v) (placeOf R u)))
+
+  pub graph-plain : graph R Clear ≡ plainGraph R Clear
+  graph-plain = λ i. record { Inner = graph R Clear .Inner; Edge = graph R Clear .Edge; cost = λ v u. cost-plain v u i }
+
+  -- and so are its routes and what they cost
+  pub routes-plain : (start end : ℕ) (us : List ℕ) → IsRoute (graph R Clear) start end us ≡ IsRoute (plainGraph R Clear) start end us
+  routes-plain start end us = ap (λ (G : Graph). IsRoute G start end us) graph-plain
+
+  pub totals-plain : (us : List ℕ) → total (cost R) us ≡ total (plainGraph R Clear .cost) us
+  totals-plain us = ap (λ (G : Graph). total (G .cost) us) graph-plain

@@ -1,19 +1,20 @@
 -- What each return and each turn of the search's small functions shows.
 use mathlib.Core.Path.{_≡_, refl, sym, ap, _∙_, subst}
 use mathlib.Core.Logic.{_⊎_, inl, inr, ⊎-elim}
-use mathlib.Core.Bool.{true, false}
+use mathlib.Core.Bool.{Bool, true, false}
 use mathlib.Core.List.{List}
 use Prim.Native.Nat.{ℕ, zero, suc, _+_, _*_, _-_, _/_, _<_, _≤_}
 use native.Mathlib.Decide.{ℕ-discrete, decLt}
 use native.Mathlib.Omega.{arith}
+use lib.Dec.{ltb}
+use borrow.Author.Tests.{ltb-true, ltb-false}
 use lib.ListN.{length, set, replicate, length-set, length-replicate}
 use lib.Seq.{getD-set-same, getD-set-other}
 use Rattle.paths.specs.Path.{Graph}
 use Rattle.geometry.specs.Words.{Point, word}
 use Rattle.lengths.specs.Length.{rootUp, squared, lengthOf}
-use Rattle.lengths.proofs.Roots.{root-is}
-use Rattle.lengths.proofs.Squares.{square-lt}
-use Rattle.tables.specs.Tables.{Records, isCorner, placeOf}
+use Rattle.lengths.specs.Charge.{charge}
+use Rattle.tables.specs.Tables.{Records, figureOf, isCorner, placeOf}
 use Rattle.tables.proofs.Splices.{word-replicate}
 use Rattle.search.specs.Network.{cost, graph}
 use Rattle.search.specs.inner.Keys.{unreached, Filled, weight, whole, Open, Corners, Improved, Relaxed, Picked}
@@ -22,17 +23,11 @@ use Rattle.search.specs.inner.Keys.{unreached, Filled, weight, whole, Op
 pub filled-all : (n x : ℕ) → Filled (replicate n x) n x
 filled-all n x = record { sized = length-replicate n x; each = λ i l. word-replicate n i x l }
 
--- the length of a straight by its square
-pub cost-is : (R : Records) (v s : ℕ) (p q : Point) (n : ℕ) → p ≡ placeOf R v → q ≡ placeOf R s → n ≡ squared p q → cost R v s ≡ rootUp n
+-- what a straight costs, by the figure and its square
+pub cost-is : (R : Records) (v s : ℕ) (p q : Point) (f n : ℕ) → p ≡ placeOf R v → q ≡ placeOf R s → f ≡ figureOf (R .runs) → n ≡ squared p q
+    → cost R v s ≡ charge f (rootUp n)
 unfolding cost lengthOf
-cost-is R v s p q n a b e = sym (ap rootUp e ∙ ap (λ (x : Point). rootUp (squared x q)) a ∙ ap (λ (x : Point). rootUp (squared (placeOf R v) x)) b)
-
--- a length is at most `most` exactly where the square is at most its square
-pub root-within : (n most : ℕ) → n ≤ most * most → rootUp n ≤ most
-root-within n most h = root-is n .least most h
-
-pub root-beyond : (n most : ℕ) → most * most < n → most < rootUp n
-root-beyond n most h = square-lt most (rootUp n) (omega (arith, root-is n .enough))
+cost-is R v s p q f n a b g e = rw (g, e, a, b)
 
 module _ (R : Records) (Clear : ℕ → ℕ → Type 0) (v s ks old : ℕ) where
   pub improved-near : old < ks + 2 → Improved (graph R Clear) v s ks old old
@@ -41,20 +36,20 @@ module _ (R : Records) (Clear : ℕ → ℕ → Type 0) (v s ks old : ℕ) where
   pub improved-hidden : (Clear v s → ⊥) → Improved (graph R Clear) v s ks old old
   improved-hidden h = record { down = omega arith; short = λ x. absurd (h (x .1)); came = inl refl }
 
-  pub improved-long : (n : ℕ) → ks + 2 ≤ old → cost R v s ≡ rootUp n → (old - ks - 2) / 256 * ((old - ks - 2) / 256) < n
-      → Improved (graph R Clear) v s ks old old
-  improved-long n l e h =
-      let g = root-beyond n ((old - ks - 2) / 256) h in
-      record { down = omega arith; short = λ x. omega arith; came = inl refl }
+  -- by the straight's cost x, and whether that is more than the key allows
+  pub improved-dear : (x : ℕ) (t : Bool) → ks + 2 ≤ old → cost R v s ≡ x → t ≡ ltb ((old - ks - 2) / 256) x → t ≡ true → Improved (graph R Clear) v s ks old old
+  improved-dear x t l e d h =
+      let g = ltb-true ((old - ks - 2) / 256) x (sym d ∙ h) in
+      record { down = omega arith; short = λ y. omega arith; came = inl refl }
 
   -- the new key is below the old
-  pub new-below : (n : ℕ) → ks + 2 ≤ old → n ≤ (old - ks - 2) / 256 * ((old - ks - 2) / 256) → 256 * rootUp n + 1 + ks < old
-  new-below n l h = let g = root-within n ((old - ks - 2) / 256) h in omega arith
+  pub new-below : (x : ℕ) (t : Bool) → ks + 2 ≤ old → t ≡ ltb ((old - ks - 2) / 256) x → t ≡ false → 256 * x + 1 + ks < old
+  new-below x t l d h = let g = ltb-false ((old - ks - 2) / 256) x (sym d ∙ h) in omega arith
 
-  pub improved-new : (n : ℕ) → (v ≡ s → old ≡ ks) → ks + 2 ≤ old → Clear v s → cost R v s ≡ rootUp n
-      → n ≤ (old - ks - 2) / 256 * ((old - ks - 2) / 256) → Improved (graph R Clear) v s ks old (256 * rootUp n + 1 + ks)
-  improved-new n d l e k h =
-      let g = new-below n l h in
+  pub improved-new : (x : ℕ) (t : Bool) → (v ≡ s → old ≡ ks) → ks + 2 ≤ old → Clear v s → cost R v s ≡ x → t ≡ ltb ((old - ks - 2) / 256) x → t ≡ false
+      → Improved (graph R Clear) v s ks old (256 * x + 1 + ks)
+  improved-new x t d l e k j h =
+      let g = new-below x t l j h in
       record {
         down = omega arith;
         short = λ x. omega arith;

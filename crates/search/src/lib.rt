@@ -1,4 +1,4 @@
-// The keys of one run's search, 256 × length + straights: A* backwards from the second end, with a lower bound from the first.
+// The keys of one run's search, 256 × cost + straights: A* backwards from the second end, with a lower bound from the first.
 ghost use mathlib.Core.Path.{_≡_};
 ghost use Prim.Native.Nat.{_+_, _*_, _<_, _≤_, max};
 ghost use lib.ListN.{length};
@@ -61,7 +61,7 @@ pub fn lower_bounds(
     first: usize,
     bounds: &mut [u32],
 )
-    requires { ⌜ (length (now blocks) ≡ 408) × (length (now runs) ≡ 120) ⌝ }
+    requires { ⌜ (length (now blocks) ≡ 408) × (length (now runs) ≡ 121) ⌝ }
     requires { ⌜ (Listed (now waiting) n) × (first < 240) × (length (now bounds) ≡ 240) ⌝ }
     ensures { λ r. ⌜ Looked (lowerBound (stored (now (blocks .entry)) (now (runs .entry))) first) (now (waiting .entry)) n (now (bounds .exit)) ⌝ }
 {
@@ -97,10 +97,11 @@ fn improved(
     }
     let most = ((old - ks - 2) / 256) as u64;
     let square = lengths::squared(tables::place_of(blocks, runs, v), at);
-    if most * most < square {
+    let figure = tables::figure_of(runs);
+    if lengths::dearer(figure, square, most) {
         return old;
     }
-    256 * lengths::root_up(square) as u32 + 1 + ks
+    256 * lengths::charge(figure, square) as u32 + 1 + ks
 }
 
 // Settles s: each of the first n waiting marks gets the key of the way by s where that is less.

@@ -7,10 +7,11 @@ use Prim.Native.Nat.{ℕ, _+_, _*_, _-_, _/_, _%_, _<_, _≤_}
 use native.Mathlib.Omega.{arith}
 use native.Mathlib.Decide.{decLt}
 use lib.Dec.{ltb, leb, eqb}
-use lib.ListN.{length, getD}
+use lib.ListN.{length, getD, set, length-set}
+use lib.Seq.{getD-set-same, getD-set-other}
 use borrow.Author.Tests.{lt-leb, lt-ltb, le-ltb}
 use Rattle.geometry.specs.Words.{Point, word, blockWords}
-use Rattle.tables.specs.Tables.{Records, runWords, isCorner, isEnd, present, placeOf, OnBlock, OnRun}
+use Rattle.tables.specs.Tables.{Records, runWords, figureOf, isCorner, isEnd, present, placeOf, OnBlock, OnRun}
 use Rattle.lists.specs.Lists.{splice}
 use Rattle.tables.specs.Written.{blockRecord, runRecord}
 use Rattle.tables.proofs.Splices.{splice-length, splice-before, splice-after, splice-here, part-ext, blockRecord-length}
@@ -68,12 +69,12 @@ module _ (R R′ : Records) (n : ℕ) (ps : List Point) (below : n < 24) (sized 
         );
       }
 
-module _ (R R′ : Records) (m : ℕ) (ps : List Point) (below : m < 24) (sized : length (R .runs) ≡ 120) (full : length (runRecord ps) ≡ 5)
+module _ (R R′ : Records) (m : ℕ) (ps : List Point) (below : m < 24) (sized : length (R .runs) ≡ 121) (full : length (runRecord ps) ≡ 5)
     (blocks : R′ .blocks ≡ R .blocks) (runs : R′ .runs ≡ splice (R .runs) (5 * m) (runRecord ps)) where
   run-fits : 5 * m + length (runRecord ps) ≤ length (R .runs)
   run-fits = omega arith
 
-  pub run-size : length (R′ .runs) ≡ 120
+  pub run-size : length (R′ .runs) ≡ 121
   run-size = ap length runs ∙ splice-length (R .runs) (5 * m) (runRecord ps) run-fits ∙ sized
 
   pub run-here : runWords (R′ .runs) m ≡ runRecord ps
@@ -81,6 +82,9 @@ module _ (R R′ : Records) (m : ℕ) (ps : List Point) (below : m < 24) (sized 
 
   pub run-kept : (k i : ℕ) → k ≢ m → 5 * k ≤ i → i < 5 * k + 5 → word (R′ .runs) i ≡ word (R .runs) i
   run-kept k i d lo hi = rw runs (splice-off (R .runs) (5 * m) (runRecord ps) run-fits i (λ (b : 5 * m ≤ i). omega arith))
+
+  pub run-figure : figureOf (R′ .runs) ≡ figureOf (R .runs)
+  run-figure = rw runs (splice-off (R .runs) (5 * m) (runRecord ps) run-fits 120 (λ (b : 5 * m ≤ 120). omega arith))
 
   pub run-other : (k : ℕ) → k ≢ m → runWords (R′ .runs) k ≡ runWords (R .runs) k
   run-other k d = part-ext (R′ .runs) (R .runs) (5 * k) 5 (run-size ∙ sym sized) (λ i lo hi. run-kept k i d lo hi)
@@ -108,3 +112,33 @@ module _ (R R′ : Records) (m : ℕ) (ps : List Point) (below : m < 24) (sized 
   pub run-same : (i : ℕ) → (OnRun m i → ⊥) → Same R R′ i
   unfolding present
   run-same i h = record { there = rw (blocks, end-off i h); place = end-place i h }
+
+-- an edit of the figure leaves every record and every mark
+module _ (R R′ : Records) (f : ℕ) (blocks : R′ .blocks ≡ R .blocks) (runs : R′ .runs ≡ set (R .runs) 120 f) where
+  figure-kept : (i : ℕ) → i < 120 → word (R′ .runs) i ≡ word (R .runs) i
+  figure-kept i h = rw runs (getD-set-other (R .runs) 120 i f 0 (omega arith))
+
+  pub figure-size : length (R′ .runs) ≡ length (R .runs)
+  figure-size = ap length runs ∙ length-set (R .runs) 120 f
+
+  pub figure-here : 120 < length (R .runs) → figureOf (R′ .runs) ≡ f
+  figure-here l = rw runs (getD-set-same (R .runs) 120 f 0 l)
+
+  pub figure-runs : (m : ℕ) → m < 24 → runWords (R′ .runs) m ≡ runWords (R .runs) m
+  figure-runs m l = part-ext (R′ .runs) (R .runs) (5 * m) 5 figure-size (λ i lo hi. figure-kept i (omega arith))
+
+  end-still : (i : ℕ) → i < 240 → isEnd (R′ .runs) i ≡ isEnd (R .runs) i
+  unfolding isEnd
+  end-still i l = ap (λ (w : ℕ). leb 192 i && ltb i 240 && eqb w 1) (figure-kept (5 * ((i - 192) / 2)) (omega arith))
+
+  pub figure-same : (i : ℕ) → i < 240 → Same R R′ i
+  unfolding present placeOf
+  figure-same i l =
+      record {
+        there = rw (blocks, end-still i l);
+        place = rw (
+          blocks,
+          figure-kept (5 * ((i - 192) / 2) + 1 + 2 * ((i - 192) % 2)) (omega arith),
+          figure-kept (5 * ((i - 192) / 2) + 1 + 2 * ((i - 192) % 2) + 1) (omega arith),
+        );
+      }

@@ -1,10 +1,11 @@
--- A record written over another: the tables stay such that the layers under the calls may use them.
+-- A record written over another, and another figure: the tables stay such that the layers under the calls may use them.
 use mathlib.Core.Path.{_≡_, sym, ap, _∙_, subst}
 use mathlib.Core.List.{List}
 use Prim.Native.Nat.{ℕ, _+_, _*_, _-_, _<_, _≤_}
 use native.Mathlib.Decide.{decLt, decLe}
 use native.Mathlib.Omega.{arith}
-use lib.ListN.{length}
+use lib.ListN.{length, set, length-set}
+use lib.Seq.{getD-set-same, getD-set-other}
 use Rattle.geometry.specs.Words.{word}
 use Rattle.geometry.specs.inner.Bounds.{BoundedRecord, Bounded}
 use Rattle.tables.specs.Tables.{stored}
@@ -45,6 +46,7 @@ run-bounded t m ws b r h =
           (λ (lo : 5 * m ≤ 5 * k) (hi : 5 * k < 5 * m + length ws). let e : 5 * k - 5 * m ≡ 0 = omega (arith, r .sized) in rw e (r .flag)) (b .flags k l);
       coordinates = λ i l. splice-words t (5 * m) ws fits (λ w. w ≤ 32767) i
           (λ (lo : 5 * m ≤ i) (hi : i < 5 * m + length ws). r .coordinates (i - 5 * m) (omega (arith, r .sized))) (b .coordinates i l);
+      figure = rw (splice-after t (5 * m) ws fits 120 (omega (arith, r .sized))) (b .figure);
     }
 
 pub block-fit : (b r : List ℕ) (n : ℕ) (ws : List ℕ) {b′ : List ℕ} → Fit (stored b r) → BoundedRecord ws → n < 24 → b′ ≡ splice b (17 * n) ws → Fit (stored b′ r)
@@ -52,3 +54,15 @@ block-fit b r n ws f w h e = rw e (record { blocks = block-bounded b n ws (f .bl
 
 pub run-fit : (b r : List ℕ) (m : ℕ) (ws : List ℕ) {r′ : List ℕ} → Fit (stored b r) → BoundedRun ws → m < 24 → r′ ≡ splice r (5 * m) ws → Fit (stored b r′)
 run-fit b r m ws f w h e = rw e (record { blocks = f .blocks; runs = run-bounded r m ws (f .runs) w h })
+
+figure-bounded : (t : List ℕ) (f : ℕ) → BoundedRuns t → f ≤ 1000 → BoundedRuns (set t 120 f)
+figure-bounded t f b h =
+    record {
+      sized = length-set t 120 f ∙ b .sized;
+      flags = λ m l. rw (getD-set-other t 120 (5 * m) f 0 (omega arith)) (b .flags m l);
+      coordinates = λ i l. rw (getD-set-other t 120 i f 0 (omega arith)) (b .coordinates i l);
+      figure = rw (getD-set-same t 120 f 0 (omega (arith, b .sized))) h;
+    }
+
+pub figure-fit : (b r : List ℕ) (f : ℕ) → Fit (stored b r) → f ≤ 1000 → Fit (stored b (set r 120 f))
+figure-fit b r f g h = record { blocks = g .blocks; runs = figure-bounded r f (g .runs) h }

@@ -4,10 +4,11 @@ use mathlib.Core.List.{List, [], _∷_, _++_}
 use Prim.Native.Nat.{ℕ, zero, suc, _+_, _*_, _-_, _/_, _%_, _<_, _≤_}
 use native.Mathlib.Nat.{suc-add}
 use native.Mathlib.Omega.{arith}
+use native.Mathlib.Decide.{decLt}
 use lib.ListN.{length, getD, take, drop, replicate, length-append, length-take, length-drop, length-replicate, getD-replicate, List·getD-append}
 use lib.Seq.{getD-take, getD-drop, ext-getD, getD-append-add, length-take-le, take-at, drop-at}
 use Rattle.geometry.specs.Words.{Point, word, placesFrom, blockWords, corners}
-use Rattle.tables.specs.Tables.{runWords, routeWords}
+use Rattle.tables.specs.Tables.{runWords, figureOf, routeWords}
 use Rattle.lists.specs.Lists.{splice}
 use Rattle.tables.specs.Written.{placeWords, blockRecord, runRecord}
 pub use Rattle.geometry.proofs.Corners.{places-length}
@@ -49,16 +50,28 @@ part-ext s t at size l h =
     λ i b. let c : i < size = omega (arith, simp (length-take) at b) in
     rw (getD-take size (drop at s) i 0 c, getD-take size (drop at t) i 0 c, getD-drop at s, getD-drop at t) (h (at + i) (omega arith) (omega arith))
 
+-- a part of a list is that of the list with more words after it
+pub part-append : (s t : List ℕ) (at size : ℕ) → at + size ≤ length s → take size (drop at (s ++ t)) ≡ take size (drop at s)
+part-append s t at size h =
+    ext-getD 0 (take size (drop at (s ++ t))) (take size (drop at s))
+    (part-length (s ++ t) at size (omega (arith, length-append s t)) ∙ sym (part-length s at size h))
+    λ i b. let c : i < size = omega (arith, simp (length-take) at b) in
+    rw (getD-take size (drop at (s ++ t)) i 0 c, getD-take size (drop at s) i 0 c, getD-drop at (s ++ t), getD-drop at s) (List·getD-append s t 0 (at + i) (omega arith))
+
 -- tables whose records are the same are the same
 pub blocks-ext : (s t : List ℕ) → length s ≡ 408 → length t ≡ 408 → ((n : ℕ) → n < 24 → blockWords s n ≡ blockWords t n) → s ≡ t
 blocks-ext s t a b h = ext-getD 0 s t (a ∙ sym b) λ i l.
     word-in s (17 * (i / 17)) 17 i (omega arith) (omega arith) ∙ ap (λ (x : List ℕ). word x (i - 17 * (i / 17))) (h (i / 17) (omega arith))
     ∙ sym (word-in t (17 * (i / 17)) 17 i (omega arith) (omega arith))
 
-pub runs-ext : (s t : List ℕ) → length s ≡ 120 → length t ≡ 120 → ((n : ℕ) → n < 24 → runWords s n ≡ runWords t n) → s ≡ t
-runs-ext s t a b h = ext-getD 0 s t (a ∙ sym b) λ i l.
-    word-in s (5 * (i / 5)) 5 i (omega arith) (omega arith) ∙ ap (λ (x : List ℕ). word x (i - 5 * (i / 5))) (h (i / 5) (omega arith))
-    ∙ sym (word-in t (5 * (i / 5)) 5 i (omega arith) (omega arith))
+pub runs-ext : (s t : List ℕ) → length s ≡ 121 → length t ≡ 121 → ((n : ℕ) → n < 24 → runWords s n ≡ runWords t n) → figureOf s ≡ figureOf t → s ≡ t
+runs-ext s t a b h f = ext-getD 0 s t (a ∙ sym b) λ i l. go i l (decLt i 120)
+  where
+    go : (i : ℕ) → i < length s → Dec (i < 120) → getD s i 0 ≡ getD t i 0
+    go i l (yes c) =
+        word-in s (5 * (i / 5)) 5 i (omega arith) (omega arith) ∙ ap (λ (x : List ℕ). word x (i - 5 * (i / 5))) (h (i / 5) (omega arith))
+        ∙ sym (word-in t (5 * (i / 5)) 5 i (omega arith) (omega arith))
+    go i l (no c) = let e : i ≡ 120 = omega arith in rw e f
 
 pub routes-ext : (s t : List ℕ) → length s ≡ 4728 → length t ≡ 4728 → ((n : ℕ) → n < 24 → routeWords s n ≡ routeWords t n) → s ≡ t
 routes-ext s t a b h = ext-getD 0 s t (a ∙ sym b) λ i l.

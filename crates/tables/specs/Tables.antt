@@ -33,6 +33,10 @@ runWords runs m = take 5 (drop (5 * m) runs)
 abbrev pub routeWords : List ℕ → ℕ → List ℕ
 routeWords routes m = take 197 (drop (197 * m) routes)
 
+-- the last word of the run table: what a straight longer than 0 is charged at least
+abbrev pub figureOf : List ℕ → ℕ
+figureOf runs = word runs 120
+
 -- mark 8 n + k is present as corner k of block n
 unfoldable pub isCorner : List ℕ → ℕ → Bool
 isCorner blocks i = ltb i 192 && ltb (i % 8) (word blocks (17 * (i / 8)))

@@ -3,7 +3,7 @@ ghost use mathlib.Core.Path.{_≡_};
 ghost use Prim.Native.Nat.{_+_, _*_, _<_};
 ghost use lib.ListN.{length};
 ghost use Rattle.geometry.specs.Words.{pointOf, placeAt};
-ghost use Rattle.tables.specs.Tables.{stored, isCorner, isEnd, present, placeOf, pairIndex, pairByte};
+ghost use Rattle.tables.specs.Tables.{stored, figureOf, isCorner, isEnd, present, placeOf, pairIndex, pairByte};
 use geometry::Place;
 
 // Whether mark i is a corner of a present block.
@@ -20,7 +20,7 @@ pub fn is_corner(blocks: &[u16], i: usize) -> bool
 
 // Whether mark i is an end of a present run.
 pub fn is_end(runs: &[u16], i: usize) -> bool
-    requires { ⌜ length (now runs) ≡ 120 ⌝ }
+    requires { ⌜ length (now runs) ≡ 121 ⌝ }
     ensures { λ r. ⌜ r ≡ isEnd (now (runs .entry)) i ⌝ }
 {
     if i < 192 {
@@ -35,13 +35,21 @@ pub fn is_end(runs: &[u16], i: usize) -> bool
 
 // Whether mark i is present.
 pub fn is_present(blocks: &[u16], runs: &[u16], i: usize) -> bool
-    requires { ⌜ (length (now blocks) ≡ 408) × (length (now runs) ≡ 120) ⌝ }
+    requires { ⌜ (length (now blocks) ≡ 408) × (length (now runs) ≡ 121) ⌝ }
     ensures { λ r. ⌜ r ≡ present (stored (now (blocks .entry)) (now (runs .entry))) i ⌝ }
 {
     if is_corner(blocks, i) {
         return true;
     }
     is_end(runs, i)
+}
+
+// What a straight longer than 0 is charged at least.
+pub fn figure_of(runs: &[u16]) -> u64
+    requires { ⌜ length (now runs) ≡ 121 ⌝ }
+    ensures { λ r. ⌜ r ≡ figureOf (now (runs .entry)) ⌝ }
+{
+    runs[120] as u64
 }
 
 // The place whose coordinates stand at word at and the next.
@@ -57,7 +65,7 @@ fn place_at(words: &[u16], at: usize) -> Place
 
 // The place of mark i.
 pub fn place_of(blocks: &[u16], runs: &[u16], i: usize) -> Place
-    requires { ⌜ (length (now blocks) ≡ 408) × (length (now runs) ≡ 120) × (i < 240) ⌝ }
+    requires { ⌜ (length (now blocks) ≡ 408) × (length (now runs) ≡ 121) × (i < 240) ⌝ }
     ensures { λ r. ⌜ pointOf r ≡ placeOf (stored (now (blocks .entry)) (now (runs .entry))) i ⌝ }
 {
     if i < 192 {

@@ -31,7 +31,7 @@ unfolding firstNo started filled
 start-done T {b} {r} {p} {s} t e y eb er ep es =
     let z = sized-of T (yes-of t _ e y) in
     let blocks : b ≡ filled 408 0 = eb ∙ ap (λ (n : ℕ). filled n 0) (z .blocks) in
-    let runs : r ≡ filled 120 0 = er ∙ ap (λ (n : ℕ). filled n 0) (z .runs) in
+    let runs : r ≡ filled 121 0 = er ∙ ap (λ (n : ℕ). filled n 0) (z .runs) in
     let pairs : p ≡ filled 28680 255 = ep ∙ ap (λ (n : ℕ). filled n 255) (z .pairs) in
     let routes : s ≡ filled 4728 0 = es ∙ ap (λ (n : ℕ). filled n 0) (z .routes) in
     record {

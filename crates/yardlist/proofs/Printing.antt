@@ -22,7 +22,7 @@ zeros : (n : ℕ) → length {A = ℕ} (replicate n 0) ≡ n
 zeros n = length-replicate {A = ℕ} n 0
 
 pub printed : {f : List ℕ} {q : ℕ} {T : Tables} {answers : List ℕ} {count number at : ℕ} {b r p s old new : List ℕ} {k : ℕ}
-    → Started (tables (replicate 408 0) (replicate 120 0) (replicate 28680 0) (replicate 4728 0)) q T
+    → Started (tables (replicate 408 0) (replicate 121 0) (replicate 28680 0) (replicate 4728 0)) q T
     → Replayed f T (replicate 4096 0) answers count number at (tables b r p s)
     → Listed answers count number at s old new k
     → Printed f old new k
@@ -37,5 +37,5 @@ printed {f} {q} {T} {answers} {count} {number} {at} {b} {r} {p} {s} st re li =
       listed = li;
     }
   where
-    empty : Sized (tables (replicate 408 0) (replicate 120 0) (replicate 28680 0) (replicate 4728 0))
-    empty = sized _ _ _ _ (zeros 408) (zeros 120) (zeros 28680) (zeros 4728)
+    empty : Sized (tables (replicate 408 0) (replicate 121 0) (replicate 28680 0) (replicate 4728 0))
+    empty = sized _ _ _ _ (zeros 408) (zeros 121) (zeros 28680) (zeros 4728)

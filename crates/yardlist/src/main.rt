@@ -11,7 +11,7 @@ fn print(file: &[u8], text: &mut [u8; ROOM]) -> usize
     ensures { λ r. ⌜ Printed (now (file .entry)) (now (text .entry)) (now (text .exit)) r ⌝ }
 {
     let mut blocks = [0u16; 408];
-    let mut runs = [0u16; 120];
+    let mut runs = [0u16; 121];
     let mut pairs = [0u8; 28680];
     let mut routes = [0u32; 4728];
     let mut answers = [0u32; 4096];

@@ -1,14 +1,13 @@
 use mathlib.Core.Path.{_≡_}
-use Prim.Native.Nat.{_-_, _/_, _≤_}
-use native.Mathlib.Nat.{mul-le-mul}
 use native.Mathlib.Omega.{arith}
 use borrow.Author.Needs.{needs}
 use Rattle.lengths.specs.Length.{rootUp}
+use Rattle.lengths.specs.Charge.{charge}
 use Rattle.tables.specs.Tables.{stored}
 use Rattle.search.specs.Network.{cost}
 use Rattle.search.proofs.Steps.{cost-is}
-use Rattle.routing.proofs.TightKeys.{loose-order, loose-straights, loose-long}
-use Rattle.lazy_routes.proofs.TightKeys.{loose-length, by-sight}
+use Rattle.routing.proofs.TightKeys.{loose-order, loose-straights, loose-dear}
+use Rattle.lazy_routes.proofs.TightKeys.{loose-cost, by-sight}
 use Rattle.lazy_routes.proofs.tight.Statement.{statement}
 use Rattle.lazy_routes.proofs.tight.Tie as tie
 
@@ -18,25 +17,19 @@ returns c = let s = c .before .before .before .before .before in (loose-order _ 
 returns-2 : tie.Need-returns-2
 returns-2 c = let s = c .before .before .before .before .before .before in (loose-straights _ _ _ _ _ _ (c .before .if1 .left) (λ q. omega (arith, c .if2 .taken)), s .pre .0 .2)
 
-cost-here : (c : tie.After-squared) → cost (stored (c .before .before .before .before .before .before .before .before .args .blocks .now) (c .before .before .before .before .before .before .before .before .args .runs .now)) (c .before .before .before .before .before .before .before .before .args .v) (c .before .before .before .before .before .before .before .before .args .u) ≡ rootUp (c .squared .result)
-cost-here c = cost-is _ _ _ _ _ _ (c .before .before .before .before .before .before .before .before .pre .0 .3) (c .before .place-of .ensures) (c .squared .ensures .0)
-
-mul-if3 : tie.Need-mul-if3
-mul-if3 c =
-    let s = c .before .before .before .before .before .before .before .before in
-    let p : (s .args .kv - s .args .ku) / 256 ≤ 16777215 = omega (arith, s .fits .kv) in
-    omega (arith, mul-le-mul p p)
+cost-here : (c : tie.After-figure-of) → cost (stored (c .before .before .before .before .before .before .before .before .before .args .blocks .now) (c .before .before .before .before .before .before .before .before .before .args .runs .now)) (c .before .before .before .before .before .before .before .before .before .args .v) (c .before .before .before .before .before .before .before .before .before .args .u) ≡ charge (c .figure-of .result) (rootUp (c .before .squared .result))
+cost-here c = cost-is _ _ _ _ _ _ _ (c .before .before .before .before .before .before .before .before .before .pre .0 .3) (c .before .before .place-of .ensures) (c .figure-of .ensures) (c .before .squared .ensures .0)
 
 returns-3 : tie.Need-returns-3
-returns-3 c = (loose-long _ _ _ _ _ _ _ (c .before .before .before .before .if1 .left) (cost-here (c .before)) (c .if3 .taken), c .before .before .before .before .before .before .before .before .before .pre .0 .2)
+returns-3 c = (loose-dear _ _ _ _ _ _ _ _ (c .before .before .before .before .before .before .if1 .left) (cost-here (c .before .before)) (c .before .dearer .ensures) (c .if3 .taken), c .before .before .before .before .before .before .before .before .before .before .before .pre .0 .2)
 
 returns-4 : tie.Need-returns-4
-returns-4 c = (loose-length _ _ _ _ _ _ _ (c .before .before .before .before .before .before .if1 .left) (cost-here (c .before .before .before)) (λ q. omega (arith, c .if4 .taken, c .before .root-up .ensures)), c .before .before .before .before .before .before .before .before .before .before .before .pre .0 .2)
+returns-4 c = (loose-cost _ _ _ _ _ _ _ (c .before .before .before .before .before .before .before .before .if1 .left) (cost-here (c .before .before .before .before)) (λ q. omega (arith, c .if4 .taken, c .before .charge .ensures)), c .before .before .before .before .before .before .before .before .before .before .before .before .before .pre .0 .2)
 
 returns-5 : tie.Need-returns-5
 returns-5 c =
-    let s = c .before .before .before .before .before .before .before .before .before .before .before .before .before .before .before in (
-      by-sight _ _ _ _ _ _ _ (c .before .before .before .before .before .before .before .before .before .before .if1 .left) (cost-here (c .before .before .before .before .before .before .before)) _ (s .pre .1 .2) (omega (arith, c .before .before .before .before .before .before .before .before .before .if2 .left)) (omega (arith, c .before .before .before .before .if4 .left, c .before .before .before .before .before .root-up .ensures)) (c .before .before .sees .ensures .0),
+    let s = c .before .before .before .before .before .before .before .before .before .before .before .before .before .before .before .before .before in (
+      by-sight _ _ _ _ _ _ _ (c .before .before .before .before .before .before .before .before .before .before .before .before .if1 .left) (cost-here (c .before .before .before .before .before .before .before .before)) _ (s .pre .1 .2) (omega (arith, c .before .before .before .before .before .before .before .before .before .before .before .if2 .left)) (omega (arith, c .before .before .before .before .if4 .left, c .before .before .before .before .before .charge .ensures)) (c .before .before .sees .ensures .0),
       c .before .before .sees .ensures .1,
     )
 
@@ -50,7 +43,8 @@ tight-spec =
     (λ c. search needs)
     (λ c κs. search needs)
     (λ c κs. search needs)
-    mul-if3
+    (λ c κs. search needs)
+    (λ c κs. search needs)
     returns-3
     (λ c κs. search needs)
     returns-4

@@ -15,7 +15,7 @@ use Rattle.pieces.specs.Showing.{spotIn}
 -- a route record whose marks can be looked up
 pub record Drawable (R : Records) (ws : List ℕ) : Type 0 where
   pub blocks : length (R .blocks) ≡ 408
-  pub runs : length (R .runs) ≡ 120
+  pub runs : length (R .runs) ≡ 121
   pub sized : length ws ≡ 197
   pub count : word ws 2 ≤ 194
   pub marks : (i : ℕ) → i < word ws 2 → word ws (3 + i) < 240

@@ -1,30 +1,23 @@
 use mathlib.Core.Path.{_≡_, sym, _∙_}
-use Prim.Native.Nat.{_-_, _/_, _≤_}
-use native.Mathlib.Nat.{mul-le-mul}
 use native.Mathlib.Omega.{arith}
 use borrow.Author.Needs.{needs}
 use Rattle.lengths.specs.Length.{rootUp}
+use Rattle.lengths.specs.Charge.{charge}
 use Rattle.tables.specs.Tables.{stored}
 use Rattle.search.specs.Network.{cost}
 use Rattle.search.proofs.Steps.{cost-is}
-use Rattle.routing.proofs.TightKeys.{loose-order, loose-straights, loose-hidden, loose-long, by-length}
+use Rattle.routing.proofs.TightKeys.{loose-order, loose-straights, loose-hidden, loose-dear, by-cost}
 use Rattle.routing.proofs.tight.Statement.{statement}
 use Rattle.routing.proofs.tight.Tie as tie
 
-cost-here : (c : tie.After-squared) → cost (stored (c .before .before .before .before .before .before .before .before .before .before .args .blocks .now) (c .before .before .before .before .before .before .before .before .before .before .args .runs .now)) (c .before .before .before .before .before .before .before .before .before .before .args .v) (c .before .before .before .before .before .before .before .before .before .before .args .u) ≡ rootUp (c .squared .result)
-cost-here c = cost-is _ _ _ _ _ _ (c .before .before .place-of .ensures) (c .before .place-of2 .ensures) (c .squared .ensures .0)
-
-mul-if4 : tie.Need-mul-if4
-mul-if4 c =
-    let s = c .before .before .before .before .before .before .before .before .before .before in
-    let p : (s .args .kv - s .args .ku) / 256 ≤ 16777215 = omega (arith, s .fits .kv) in
-    omega (arith, mul-le-mul p p)
+cost-here : (c : tie.After-figure-of) → cost (stored (c .before .before .before .before .before .before .before .before .before .before .before .args .blocks .now) (c .before .before .before .before .before .before .before .before .before .before .before .args .runs .now)) (c .before .before .before .before .before .before .before .before .before .before .before .args .v) (c .before .before .before .before .before .before .before .before .before .before .before .args .u) ≡ charge (c .figure-of .result) (rootUp (c .before .squared .result))
+cost-here c = cost-is _ _ _ _ _ _ _ (c .before .before .before .place-of .ensures) (c .before .before .place-of2 .ensures) (c .figure-of .ensures) (c .before .squared .ensures .0)
 
 returns-5 : tie.Need-returns-5
 returns-5 c =
-    let s = c .before .before .before .before .before .before .before .before .before .before .before .before in
-    rw (c .root-up .ensures)
-    (by-length _ _ _ _ _ _ _ (s .pre .1 .2) (c .before .before .before .before .before .before .before .before .if1 .left) (c .before .before .before .before .before .before .before .if2 .left) (sym (c .before .before .before .before .before .before .pair-byte .ensures) ∙ c .before .before .before .before .before .if3 .left) (cost-here (c .before .before)))
+    let s = c .before .before .before .before .before .before .before .before .before .before .before .before .before .before in
+    rw (c .charge .ensures)
+    (by-cost _ _ _ _ _ _ _ (s .pre .1 .2) (c .before .before .before .before .before .before .before .before .before .before .if1 .left) (c .before .before .before .before .before .before .before .before .before .if2 .left) (sym (c .before .before .before .before .before .before .before .before .pair-byte .ensures) ∙ c .before .before .before .before .before .before .before .if3 .left) (cost-here (c .before .before .before)))
 
 pub tight-spec : {M : Type 1} → statement M
 tight-spec =
@@ -39,7 +32,8 @@ tight-spec =
     (λ c κs. search needs)
     (λ c κs. search needs)
     (λ c κs. search needs)
-    mul-if4
-    (λ c. loose-long _ _ _ _ _ _ _ (c .before .before .before .before .before .before .before .if1 .left) (cost-here (c .before)) (c .if4 .taken))
+    (λ c κs. search needs)
+    (λ c κs. search needs)
+    (λ c. loose-dear _ _ _ _ _ _ _ _ (c .before .before .before .before .before .before .before .before .before .if1 .left) (cost-here (c .before .before)) (c .before .dearer .ensures) (c .if4 .taken))
     (λ c κs. search needs)
     returns-5)

@@ -1,4 +1,4 @@
--- The keys of marks in one search, A* backwards from the second end, and what its steps say of them. A key is 256 × length + straights.
+-- The keys of marks in one search, A* backwards from the second end, and what its steps say of them. A key is 256 × cost + straights.
 use mathlib.Core.Path.{_≡_}
 use mathlib.Core.Logic.{_⊎_}
 use mathlib.Core.Bool.{Bool, true, false}

@@ -5,7 +5,7 @@ use Prim.Native.Nat.{ℕ, _*_, _<_, _≤_}
 use lib.ListN.{length}
 use Rattle.geometry.specs.Words.{word}
 use Rattle.geometry.specs.inner.Bounds.{Bounded}
-use Rattle.tables.specs.Tables.{Records}
+use Rattle.tables.specs.Tables.{Records, figureOf}
 
 -- of the words of one run
 pub record BoundedRun (ws : List ℕ) : Type 0 where
@@ -15,9 +15,10 @@ pub record BoundedRun (ws : List ℕ) : Type 0 where
 
 -- of the run table
 pub record BoundedRuns (runs : List ℕ) : Type 0 where
-  pub sized : length runs ≡ 120
+  pub sized : length runs ≡ 121
   pub flags : (m : ℕ) → m < 24 → word runs (5 * m) ≤ 1
   pub coordinates : (i : ℕ) → i < 120 → word runs i ≤ 32767
+  pub figure : figureOf runs ≤ 1000
 
 -- of both record tables
 pub record Fit (R : Records) : Type 0 where

@@ -1,0 +1,41 @@
+// The edit of the figure, what a straight longer than 0 is charged at least, over four tables that the caller lends.
+// It answers the number of the first question that is answered no, and then changes no table; 0 means done.
+ghost use mathlib.Core.Path.{_≡_};
+ghost use Prim.Native.Nat.{_≤_};
+ghost use lib.ListN.{length};
+ghost use Rattle.tables.specs.Tables.{tables, stored};
+ghost use Rattle.tables.specs.inner.Fit.{Fit};
+ghost use Rattle.book.specs.Book.{setCharge};
+ghost use Rattle.book.specs.Edits.{FigureEdited, Called};
+use answers::set_charge_answer;
+use routing::all_routes;
+
+// The figure is replaced; routes follow.
+fn replace_figure(blocks: &[u16], runs: &mut [u16], pairs: &[u8], routes: &mut [u32], figure: u16)
+    requires fit { ⌜ (Fit (stored (now blocks) (now runs))) × (figure ≤ 1000) ⌝ }
+    requires sizes { ⌜ (length (now pairs) ≡ 28680) × (length (now routes) ≡ 4728) ⌝ }
+    ensures { λ r. ⌜ FigureEdited (tables (now (blocks .entry)) (now (runs .entry)) (now (pairs .entry)) (now (routes .entry)))
+        figure (tables (now (blocks .entry)) (now (runs .exit)) (now (pairs .entry)) (now (routes .exit))) ⌝ }
+{
+    runs[120] = figure;
+    all_routes(blocks, runs, pairs, routes);
+}
+
+pub fn set_charge(
+    blocks: &mut [u16],
+    runs: &mut [u16],
+    pairs: &mut [u8],
+    routes: &mut [u32],
+    figure: u16,
+) -> u32
+    ensures { λ r. ⌜ Called (setCharge figure)
+        (tables (now (blocks .entry)) (now (runs .entry)) (now (pairs .entry)) (now (routes .entry)))
+        r (tables (now (blocks .exit)) (now (runs .exit)) (now (pairs .exit)) (now (routes .exit))) ⌝ }
+{
+    let v = set_charge_answer(blocks, runs, pairs, routes, figure);
+    if v != 0 {
+        return v;
+    }
+    replace_figure(blocks, runs, pairs, routes, figure);
+    0
+}
