@@ -4,7 +4,7 @@ use mathlib.Core.List.{List}
 use Prim.Native.Nat.{ℕ, _+_, _*_, _≤_}
 use native.Mathlib.Omega.{arith}
 use Rattle.tables.specs.Tables.{Tables}
-use Rattle.book.specs.Book.{addBlock, removeBlock, moveBlock, addRun, removeRun, moveRun}
+use Rattle.book.specs.Book.{addBlock, removeBlock, moveBlock, addRun, removeRun, moveRun, setCharge}
 use Rattle.book.specs.Edits.{Called}
 use Rattle.yardfile.specs.declared.Item.{Item}
 use Rattle.yardfile.specs.File.{byte, field, displacement, fieldsFrom}
@@ -35,5 +35,9 @@ module _ (f : List ℕ) (i : Item) (T T′ : Tables) (r : ℕ) where
   unfolding editOf
   edit-six k c = rw k c
 
-pub last-kind : (k : ℕ) → 1 ≤ k → k ≤ 6 → (k ≡ 1 → ⊥) → (k ≡ 2 → ⊥) → (k ≡ 3 → ⊥) → (k ≡ 4 → ⊥) → (k ≡ 5 → ⊥) → k ≡ 6
-last-kind k l h a b c d e = omega arith
+  pub edit-seven : i .kind ≡ 7 → Called (setCharge (field f (i .fields))) T r T′ → Called (editOf f i) T r T′
+  unfolding editOf
+  edit-seven k c = rw k c
+
+pub last-kind : (k : ℕ) → 1 ≤ k → k ≤ 7 → (k ≡ 1 → ⊥) → (k ≡ 2 → ⊥) → (k ≡ 3 → ⊥) → (k ≡ 4 → ⊥) → (k ≡ 5 → ⊥) → (k ≡ 6 → ⊥) → k ≡ 7
+last-kind k l h a b c d e g = omega arith

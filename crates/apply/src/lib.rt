@@ -8,6 +8,7 @@ use fields::add_block_at;
 use fields::add_run_at;
 use fields::move_block_at;
 use fields::move_run_at;
+use fields::set_charge_at;
 use run_edits::remove_run;
 use yardfile::Item;
 
@@ -43,5 +44,8 @@ pub fn apply(
     if kind == 5 {
         return remove_run(blocks, runs, pairs, routes, number);
     }
-    move_run_at(file, at, blocks, runs, pairs, routes, number)
+    if kind == 6 {
+        return move_run_at(file, at, blocks, runs, pairs, routes, number);
+    }
+    set_charge_at(file, at, blocks, runs, pairs, routes)
 }

@@ -13,7 +13,7 @@ use mir.Val.{toZ, ofZ}
 use mir.ValLaws.{toZ-ofZ}
 use Rattle.geometry.specs.Words.{Point}
 use Rattle.tables.specs.Tables.{Tables}
-use Rattle.book.specs.Book.{addBlock, moveBlock, addRun, moveRun}
+use Rattle.book.specs.Book.{addBlock, moveBlock, addRun, moveRun, setCharge}
 use Rattle.book.specs.Edits.{Called}
 use Rattle.yardfile.specs.File.{field, fieldsFrom}
 
@@ -61,6 +61,9 @@ words-inside f at n words e = omega (arith, length-take n words, ap length e, fi
 pub words-count : (f : List ℕ) (at n : ℕ) (words : List ℕ) → take n words ≡ fieldsFrom f at n → n ≡ length (take n words)
 words-count f at n words e = sym (ap length e ∙ fields-length f at n)
 
+pub charge-called : (T T′ : Tables) (r g g′ : ℕ) → g ≡ g′ → Called (setCharge g) T r T′ → Called (setCharge g′) T r T′
+charge-called T T′ r g g′ e c = rw e at c
+
 module _ (n : ℕ) (T T′ : Tables) (r : ℕ) where
   pub block-called : (ws vs : List ℕ) → ws ≡ vs → Called (addBlock n ws) T r T′ → Called (addBlock n vs) T r T′
   block-called ws vs e c = rw e at c
@@ -76,5 +79,3 @@ module _ (n : ℕ) (T T′ : Tables) (r : ℕ) where
       → Called (moveBlock n (toZ w16 (ofZ w16 a)) (toZ w16 (ofZ w16 b))) T r T′ → Called (moveBlock n a′ b′) T r T′
   shift-called a b a′ b′ fa fb e f c =
       rw (e, f) at (rw (toZ-ofZ w16 a (record { sfits = fa }), toZ-ofZ w16 b (record { sfits = fb })) at c)
-
--- the record's kind says which edit it is

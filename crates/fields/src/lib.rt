@@ -4,12 +4,13 @@ ghost use Prim.Native.Nat.{_+_, _*_, _≤_};
 ghost use lib.ListN.{length, take};
 ghost use Rattle.geometry.specs.Words.{pointOf};
 ghost use Rattle.tables.specs.Tables.{tables};
-ghost use Rattle.book.specs.Book.{addBlock, moveBlock, addRun, moveRun};
+ghost use Rattle.book.specs.Book.{addBlock, moveBlock, addRun, moveRun, setCharge};
 ghost use Rattle.book.specs.Edits.{Called};
 ghost use Rattle.yardfile.specs.File.{byte, field, displacement, fieldsFrom};
 ghost use Rattle.fields.specs.Asked.{placeIn};
 use block_edits::add_block;
 use block_edits::move_block;
+use charge_edits::set_charge;
 use geometry::Place;
 use run_edits::add_run;
 use run_edits::move_run;
@@ -126,4 +127,22 @@ pub fn move_run_at(
     let first = place_in(file, at);
     let second = place_in(file, at + 4);
     move_run(blocks, runs, pairs, routes, number, first, second)
+}
+
+// Sets the figure that stands at a position.
+pub fn set_charge_at(
+    file: &[u8],
+    at: usize,
+    blocks: &mut [u16],
+    runs: &mut [u16],
+    pairs: &mut [u8],
+    routes: &mut [u32],
+) -> u32
+    requires { ⌜ at + 2 ≤ length (now file) ⌝ }
+    ensures { λ r. ⌜ Called (setCharge (field (now (file .entry)) at))
+        (tables (now (blocks .entry)) (now (runs .entry)) (now (pairs .entry)) (now (routes .entry)))
+        r (tables (now (blocks .exit)) (now (runs .exit)) (now (pairs .exit)) (now (routes .exit))) ⌝ }
+{
+    let figure = field(file, at);
+    set_charge(blocks, runs, pairs, routes, figure)
 }

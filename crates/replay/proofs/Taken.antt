@@ -14,25 +14,25 @@ use Rattle.yardfile.specs.declared.Item.{Item}
 use Rattle.yardfile.specs.declared.Reading.{Reading}
 use Rattle.yardfile.specs.declared.Reading.the-variants.{Found, End, Refused}
 use Rattle.yardfile.specs.File.{byte, headRight, bodySize, kindRight, recordWhole, readAt, numberOf}
-use Rattle.yardfile.proofs.Cases.{head-small, whole-fits, body-block, body-move, body-ends, body-new-ends}
+use Rattle.yardfile.proofs.Cases.{head-small, whole-fits, body-block, body-move, body-ends, body-new-ends, body-figure}
 use Rattle.yardfile.proofs.Reading as R
 use Rattle.replay.specs.Replay.{Reads, atEnd, atStop, stopAt}
 use Rattle.apply.specs.inner.Whole.{Whole}
 
-whole-kind : (f : List ℕ) (at : ℕ) → recordWhole f at ≡ true → (1 ≤ byte f at) × (byte f at ≤ 6)
+whole-kind : (f : List ℕ) (at : ℕ) → recordWhole f at ≡ true → (1 ≤ byte f at) × (byte f at ≤ 7)
 unfolding recordWhole
 whole-kind f at h =
     let third : Bool = cond (eqb (byte f at) 1) (leb (at + 3) (length f)) true in
     let h₁ = both (kindRight (byte f at) && leb (at + 2) (length f) && third) (leb (at + 2 + bodySize f at) (length f)) h in
     let h₂ = both (kindRight (byte f at) && leb (at + 2) (length f)) third (h₁ .0) in
     let h₃ = both (kindRight (byte f at)) (leb (at + 2) (length f)) (h₂ .0) in
-    let h₄ = both (leb 1 (byte f at)) (leb (byte f at) 6) (h₃ .0) in
-    (leb-true 1 _ (h₄ .0), leb-true _ 6 (h₄ .1))
+    let h₄ = both (leb 1 (byte f at)) (leb (byte f at) 7) (h₃ .0) in
+    (leb-true 1 _ (h₄ .0), leb-true _ 7 (h₄ .1))
 
 pub record Taken (f : List ℕ) (at : ℕ) (i : Item) : Type 0 where
   pub small : length f ≤ 8192
   pub low : 1 ≤ byte f at
-  pub high : byte f at ≤ 6
+  pub high : byte f at ≤ 7
   pub fits : at + 2 + bodySize f at ≤ length f
   pub kind : i .kind ≡ byte f at
   pub fields : i .fields ≡ at + 2
@@ -72,6 +72,7 @@ taken-whole f at i t =
       shift = λ k. rw (t .fields) (omega (arith, t .fits, body-move f at (sym (t .kind) ∙ k)));
       ends = λ k. rw (t .fields) (omega (arith, t .fits, body-ends f at (sym (t .kind) ∙ k)));
       newEnds = λ k. rw (t .fields) (omega (arith, t .fits, body-new-ends f at (sym (t .kind) ∙ k)));
+      figure = λ k. rw (t .fields) (omega (arith, t .fits, body-figure f at (sym (t .kind) ∙ k)));
     }
 
 -- the second and the third case of a reading: the list of edits ends

@@ -83,28 +83,32 @@ module _ (f : List ℕ) (at : ℕ) where
   unfolding bodySize
   body-new-ends k = (rw k, omega arith)
 
-  pub body-none : (byte f at ≡ 1 → ⊥) → (byte f at ≡ 3 → ⊥) → (byte f at ≡ 4 → ⊥) → (byte f at ≡ 6 → ⊥) → (0 ≡ bodySize f at) × (0 ≤ 1021)
+  pub body-figure : (byte f at ≡ 7) → (2 ≡ bodySize f at) × (2 ≤ 1021)
   unfolding bodySize
-  body-none a b c d = (rw (ne-eqb (byte f at) 1 a, ne-eqb (byte f at) 3 b, ne-eqb (byte f at) 4 c, ne-eqb (byte f at) 6 d), omega arith)
+  body-figure k = (rw k, omega arith)
+
+  pub body-none : (byte f at ≡ 1 → ⊥) → (byte f at ≡ 3 → ⊥) → (byte f at ≡ 4 → ⊥) → (byte f at ≡ 6 → ⊥) → (byte f at ≡ 7 → ⊥) → (0 ≡ bodySize f at) × (0 ≤ 1021)
+  unfolding bodySize
+  body-none a b c d e = (rw (ne-eqb (byte f at) 1 a, ne-eqb (byte f at) 3 b, ne-eqb (byte f at) 4 c, ne-eqb (byte f at) 6 d, ne-eqb (byte f at) 7 e), omega arith)
 
   pub whole-low : byte f at < 1 → false ≡ recordWhole f at
   unfolding recordWhole
   whole-low h = rw (lt-leb 1 (byte f at) h)
 
   module _ (low : 1 ≤ byte f at) where
-    pub whole-high : 6 < byte f at → false ≡ recordWhole f at
+    pub whole-high : 7 < byte f at → false ≡ recordWhole f at
     unfolding recordWhole
-    whole-high h = rw (le-leb 1 (byte f at) low, lt-leb (byte f at) 6 h)
+    whole-high h = rw (le-leb 1 (byte f at) low, lt-leb (byte f at) 7 h)
 
-    module _ (high : byte f at ≤ 6) where
+    module _ (high : byte f at ≤ 7) where
       pub whole-short : length f < at + 2 → false ≡ recordWhole f at
       unfolding recordWhole
-      whole-short h = rw (le-leb 1 (byte f at) low, le-leb (byte f at) 6 high, lt-leb (at + 2) (length f) h)
+      whole-short h = rw (le-leb 1 (byte f at) low, le-leb (byte f at) 7 high, lt-leb (at + 2) (length f) h)
 
       -- the count byte of a block is one of the bytes that its size counts
       pub whole-last : (n : ℕ) → at + 2 ≤ length f → n ≡ bodySize f at → leb (at + 2 + n) (length f) ≡ recordWhole f at
       unfolding recordWhole
-      whole-last n h e = rw (e, le-leb 1 (byte f at) low, le-leb (byte f at) 6 high, le-leb (at + 2) (length f) h) (go (ℕ-discrete (byte f at) 1) (decLt (length f) (at + 2 + bodySize f at)))
+      whole-last n h e = rw (e, le-leb 1 (byte f at) low, le-leb (byte f at) 7 high, le-leb (at + 2) (length f) h) (go (ℕ-discrete (byte f at) 1) (decLt (length f) (at + 2 + bodySize f at)))
         where
           go : Dec (byte f at ≡ 1) → Dec (length f < at + 2 + bodySize f at)
               → leb (at + 2 + bodySize f at) (length f) ≡ (cond (eqb (byte f at) 1) (leb (at + 3) (length f)) true) && leb (at + 2 + bodySize f at) (length f)

@@ -17,14 +17,14 @@ headRight f =
     leb 5 (length f) && leb (length f) 8192
     && eqb (byte f 0) 89 && eqb (byte f 1) 82 && eqb (byte f 2) 68 && eqb (byte f 3) 1 && eqb (byte f 4) 0
 
--- how many bytes follow a record's kind and number: a count byte and four for each corner, two displacements, or four coordinates
+-- how many bytes follow a record's kind and number: a count byte and four for each corner, two displacements, four coordinates, or the figure
 unfoldable pub bodySize : List ℕ → ℕ → ℕ
 bodySize f at =
     cond (eqb (byte f at) 1) (1 + 4 * byte f (at + 2))
-    (cond (eqb (byte f at) 3) 4 (cond (eqb (byte f at) 4 || eqb (byte f at) 6) 8 0))
+    (cond (eqb (byte f at) 3) 4 (cond (eqb (byte f at) 4 || eqb (byte f at) 6) 8 (cond (eqb (byte f at) 7) 2 0)))
 
 abbrev pub kindRight : ℕ → Bool
-kindRight k = leb 1 k && leb k 6
+kindRight k = leb 1 k && leb k 7
 
 -- 10, short of the end: a known kind, and the record whole, a block's count byte too
 unfoldable pub recordWhole : List ℕ → ℕ → Bool

@@ -72,6 +72,9 @@ fn body_size(file: &[u8], at: usize) -> usize
     if kind == 6 {
         return 8;
     }
+    if kind == 7 {
+        return 2;
+    }
     0
 }
 
@@ -84,7 +87,7 @@ fn record_whole(file: &[u8], at: usize) -> bool
     if kind < 1 {
         return false;
     }
-    if 6 < kind {
+    if 7 < kind {
         return false;
     }
     if file.len() < at + 2 {

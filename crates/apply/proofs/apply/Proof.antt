@@ -1,4 +1,4 @@
-use Rattle.apply.proofs.ByKind.{edit-one, edit-two, edit-three, edit-four, edit-five, edit-six, last-kind}
+use Rattle.apply.proofs.ByKind.{edit-one, edit-two, edit-three, edit-four, edit-five, edit-six, edit-seven, last-kind}
 use borrow.Author.Needs.{needs}
 use Rattle.apply.proofs.apply.Statement.{statement}
 use Rattle.apply.proofs.apply.Tie as tie
@@ -28,12 +28,20 @@ returns-5 : tie.Need-returns-5
 returns-5 c = edit-five _ _ _ _ _ (c .before .before .before .before .before .before .before .before .before .before .before .before .before .if5 .taken) (c .before .before .before .before .before .before .before .before .remove-run .ensures)
 
 move-run-at-requires : tie.Need-move-run-at-requires
-move-run-at-requires c κs = c .before .before .before .before .before .before .before .before .before .before .before .before .before .before .before .pre .newEnds (last-kind _ (c .before .before .before .before .before .before .before .before .before .before .before .before .before .before .before .pre .low) (c .before .before .before .before .before .before .before .before .before .before .before .before .before .before .before .pre .high) (c .before .before .before .before .before .before .before .before .if1 .left) (c .before .before .before .before .before .before .before .if2 .left) (c .before .before .before .before .before .before .if3 .left) (c .before .before .before .before .before .if4 .left) (c .before .before .before .before .if5 .left))
+move-run-at-requires c κs = c .before .before .before .before .before .before .before .before .before .before .before .before .before .before .before .before .pre .newEnds (c .before .before .before .before .if6 .taken)
 
 returns-6 : tie.Need-returns-6
-returns-6 c =
-    let s = c .before .before .before .before .before .before .before .before .before .before .before .before .before .before .before .before .before .before .before .before .before .before .before .before in
-    edit-six _ _ _ _ _ (last-kind _ (s .pre .low) (s .pre .high) (c .before .before .before .before .before .before .before .before .before .before .before .before .before .before .before .before .before .if1 .left) (c .before .before .before .before .before .before .before .before .before .before .before .before .before .before .before .before .if2 .left) (c .before .before .before .before .before .before .before .before .before .before .before .before .before .before .before .if3 .left) (c .before .before .before .before .before .before .before .before .before .before .before .before .before .before .if4 .left) (c .before .before .before .before .before .before .before .before .before .before .before .before .before .if5 .left)) (c .before .before .before .before .before .before .before .before .move-run-at .ensures)
+returns-6 c = edit-six _ _ _ _ _ (c .before .before .before .before .before .before .before .before .before .before .before .before .before .if6 .taken) (c .before .before .before .before .before .before .before .before .move-run-at .ensures)
+
+set-charge-at-requires : tie.Need-set-charge-at-requires
+set-charge-at-requires c κs =
+    let s = c .before .before .before .before .before .before .before .before .before .before .before .before .before .before .before .before in
+    s .pre .figure (last-kind _ (s .pre .low) (s .pre .high) (c .before .before .before .before .before .before .before .before .before .if1 .left) (c .before .before .before .before .before .before .before .before .if2 .left) (c .before .before .before .before .before .before .before .if3 .left) (c .before .before .before .before .before .before .if4 .left) (c .before .before .before .before .before .if5 .left) (c .before .before .before .before .if6 .left))
+
+returns-7 : tie.Need-returns-7
+returns-7 c =
+    let s = c .before .before .before .before .before .before .before .before .before .before .before .before .before .before .before .before .before .before .before .before .before .before .before .before .before in
+    edit-seven _ _ _ _ _ (last-kind _ (s .pre .low) (s .pre .high) (c .before .before .before .before .before .before .before .before .before .before .before .before .before .before .before .before .before .before .if1 .left) (c .before .before .before .before .before .before .before .before .before .before .before .before .before .before .before .before .before .if2 .left) (c .before .before .before .before .before .before .before .before .before .before .before .before .before .before .before .before .if3 .left) (c .before .before .before .before .before .before .before .before .before .before .before .before .before .before .before .if4 .left) (c .before .before .before .before .before .before .before .before .before .before .before .before .before .before .if5 .left) (c .before .before .before .before .before .before .before .before .before .before .before .before .before .if6 .left)) (c .before .before .before .before .before .before .before .before .set-charge-at .ensures)
 
 pub apply-spec : {M : Type 1} → statement M
 apply-spec =
@@ -75,4 +83,10 @@ apply-spec =
     (λ c. search needs)
     (λ c. search needs)
     (λ c. search needs)
-    returns-6)
+    returns-6
+    set-charge-at-requires
+    (λ c. search needs)
+    (λ c. search needs)
+    (λ c. search needs)
+    (λ c. search needs)
+    returns-7)

@@ -9,8 +9,9 @@ use Rattle.yardfile.specs.File.{byte}
 pub record Whole (f : List ℕ) (r : Item) : Type 0 where
   pub small : length f ≤ 8192
   pub low : 1 ≤ r .kind
-  pub high : r .kind ≤ 6
+  pub high : r .kind ≤ 7
   pub block : r .kind ≡ 1 → r .fields + 1 + 4 * byte f (r .fields) ≤ length f
   pub shift : r .kind ≡ 3 → r .fields + 4 ≤ length f
   pub ends : r .kind ≡ 4 → r .fields + 8 ≤ length f
   pub newEnds : r .kind ≡ 6 → r .fields + 8 ≤ length f
+  pub figure : r .kind ≡ 7 → r .fields + 2 ≤ length f

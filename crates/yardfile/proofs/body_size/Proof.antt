@@ -1,4 +1,4 @@
-use Rattle.yardfile.proofs.Cases.{body-block, body-move, body-ends, body-new-ends, body-none}
+use Rattle.yardfile.proofs.Cases.{body-block, body-move, body-ends, body-new-ends, body-figure, body-none}
 use borrow.Author.Needs.{needs}
 use Rattle.yardfile.proofs.body_size.Statement.{statement}
 use Rattle.yardfile.proofs.body_size.Tie as tie
@@ -16,7 +16,10 @@ returns-4 : tie.Need-returns-4
 returns-4 c = search body-new-ends
 
 returns-5 : tie.Need-returns-5
-returns-5 c = body-none _ _ (c .before .before .before .if1 .left) (c .before .before .if2 .left) (c .before .if3 .left) (c .if4 .left)
+returns-5 c = search body-figure
+
+returns-6 : tie.Need-returns-6
+returns-6 c = body-none _ _ (c .before .before .before .before .if1 .left) (c .before .before .before .if2 .left) (c .before .before .if3 .left) (c .before .if4 .left) (c .if5 .left)
 
 pub body-size-spec : {M : Type 1} → statement M
 body-size-spec =
@@ -32,4 +35,5 @@ body-size-spec =
     returns-2
     returns-3
     returns-4
-    returns-5)
+    returns-5
+    returns-6)
