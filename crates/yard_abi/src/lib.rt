@@ -4,7 +4,7 @@ ghost use mathlib.Core.List.{[], _∷_};
 ghost use lib.ListN.{length};
 ghost use Rattle.geometry.specs.Words.{point};
 ghost use Rattle.tables.specs.Tables.{tables, stored};
-ghost use Rattle.book.specs.Book.{addBlock, removeBlock, moveBlock, addRun, removeRun, moveRun};
+ghost use Rattle.book.specs.Book.{addBlock, removeBlock, moveBlock, addRun, removeRun, moveRun, setCharge};
 ghost use Rattle.book.specs.Edits.{Started, Called, Checked};
 ghost use Rattle.counter.specs.Quote.{RouteQuoted};
 ghost use Rattle.ducts.specs.Quote.{DuctQuoted};
@@ -142,6 +142,21 @@ pub extern "C" fn yard_move_run(
         north: second_north,
     };
     run_edits::move_run(blocks, runs, pairs, routes, number, first, second)
+}
+
+#[no_mangle]
+pub extern "C" fn yard_set_charge(
+    blocks: &mut [u16],
+    runs: &mut [u16],
+    pairs: &mut [u8],
+    routes: &mut [u32],
+    figure: u16,
+) -> u32
+    ensures { λ r. ⌜ Called (setCharge figure)
+        (tables (now (blocks .entry)) (now (runs .entry)) (now (pairs .entry)) (now (routes .entry)))
+        r (tables (now (blocks .exit)) (now (runs .exit)) (now (pairs .exit)) (now (routes .exit))) ⌝ }
+{
+    charge_edits::set_charge(blocks, runs, pairs, routes, figure)
 }
 
 #[no_mangle]
