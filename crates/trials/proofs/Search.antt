@@ -5,6 +5,7 @@ use Prim.Native.Nat.{ℕ, zero, suc, _+_, _*_, _/_, _%_, min}
 use lib.Dec.{ltb, leb, eqb}
 use Rattle.geometry.specs.Words.{Point}
 use Rattle.lengths.specs.Length.{squared}
+use Rattle.lengths.specs.Charge.{charge}
 use Rattle.paths.proofs.Labels.{Label, label}
 use Rattle.book.specs.Book.{Book}
 use Rattle.trials.proofs.Drawings.{seen, cornerMark, markAt}
@@ -22,7 +23,7 @@ abbrev far : ℕ
 far = 4294967296
 
 module _ (b : Book) (p q : Point) where
-  -- the second end and the corners below mark u, each followed by its key: 256 × length + straights of a chain to the second end
+  -- the second end and the corners below mark u, each followed by its key: 256 × charges + straights of a chain to the second end
   unfoldable unknown : ℕ → List ℕ
   unfolding cornerMark
   unknown zero = 193 ∷ 0 ∷ []
@@ -30,11 +31,11 @@ module _ (b : Book) (p q : Point) where
 
   -- the best key that a straight from v leads to
   unfoldable reach : ℕ → List ℕ → ℕ
-  unfolding seen markAt root
+  unfolding seen markAt root charge
   reach v [] = far
   reach v (u ∷ []) = far
   reach v (u ∷ k ∷ ks) =
-      let n = root (squared (markAt b p q v) (markAt b p q u)) in
+      let n = charge (b .figure) (root (squared (markAt b p q v) (markAt b p q u))) in
       let x = cond (eqb v u || not (seen b (markAt b p q v) (markAt b p q u))) far (256 * n + 1 + k) in
       min x (reach v ks)
 

@@ -12,6 +12,7 @@ use borrow.Author.Tests.{leb-true, le-leb, eqb-true, eqb-false, eq-eqb, ne-eqb, 
 use Rattle.lists.proofs.Every.{both, and-yes, or-cases}
 use Rattle.geometry.specs.Words.{Point}
 use Rattle.lengths.specs.Length.{squared, lengthOf, rootUp}
+use Rattle.lengths.specs.Charge.{charge}
 use Rattle.tables.specs.Tables.{Tables, records, present}
 use Rattle.visibility.specs.Visibility.{ByPlaces}
 use Rattle.paths.specs.Path.{Graph, total}
@@ -34,15 +35,17 @@ module _ (b : Book) (p q : Point) (L : ℕ → Label) where
   abbrev sees : ℕ → ℕ → Bool
   sees v u = seen b (markAt b p q v) (markAt b p q u)
 
-  -- there is no straight from v to u, or their labels differ by no more than it
+  -- there is no straight from v to u, or their labels differ by no more than it, or by less
   unfoldable relaxes : ℕ → ℕ → Bool
   unfolding seen markAt atLeast
-  relaxes v u = eqb v u || (not (sees v u) || (leb (L v .hops) (1 + L u .hops) && atLeast (apart v u) (L v .len - L u .len)))
+  relaxes v u =
+      eqb v u || (not (sees v u) || (leb (L v .hops) (1 + L u .hops) && atLeast (b .figure) (apart v u) (L v .len - L u .len)
+      || atLeast (b .figure) (apart v u) (L v .len + 1 - L u .len)))
 
   -- the labels add up by the straight from v to u
   unfoldable adds : ℕ → ℕ → Bool
   unfolding seen markAt measures
-  adds v u = not (eqb v u) && (sees v u && (eqb (L v .hops) (1 + L u .hops) && (leb (L u .len) (L v .len) && measures (apart v u) (L v .len - L u .len))))
+  adds v u = not (eqb v u) && (sees v u && (eqb (L v .hops) (1 + L u .hops) && (leb (L u .len) (L v .len) && measures (b .figure) (apart v u) (L v .len - L u .len))))
 
   unfoldable relaxesAll : ℕ → Bool
   unfolding relaxes eachCorner
@@ -71,9 +74,9 @@ module _ (b : Book) (p q : Point) (L : ℕ → Label) where
     abbrev At : ℕ → Type 0
     At u = Mark b T d p q run u
 
-    cost-is : {v u : ℕ} → At v → At u → cost (records T) v u ≡ rootUp (apart v u)
+    cost-is : {v u : ℕ} → At v → At u → cost (records T) v u ≡ charge (b .figure) (rootUp (apart v u))
     unfolding cost lengthOf
-    cost-is m n = rw (place-is b T d p q run m, place-is b T d p q run n)
+    cost-is m n = rw (d .figure, place-is b T d p q run m, place-is b T d p q run n)
 
     seen-edge : {v u : ℕ} → At v → At u → G .Edge v u → sees v u ≡ true
     seen-edge m n e = seen-of b T d _ _ (rw (place-is b T d p q run m, place-is b T d p q run n) at (e .1 .1))
@@ -87,9 +90,11 @@ module _ (b : Book) (p q : Point) (L : ℕ → Label) where
     relaxed-by {v} {u} m n h e =
         let s = or-else (eqb v u) _ h (λ t. e .0 (eqb-true v u t)) in
         let r = or-else (not (sees v u)) _ s (λ t. true≢false (sym (seen-edge m n e) ∙ not-true _ t)) in
-        let t = both (leb (L v .hops) (1 + L u .hops)) _ r in
-        let l : L v .len - L u .len ≤ rootUp (apart v u) = at-least _ _ (t .1) in
-        above (L v) (L u) (cost (records T) v u) (omega (arith, cost-is m n)) (leb-true _ _ (t .0))
+        ⊎-elim (λ c.
+        let t = both (leb (L v .hops) (1 + L u .hops)) _ c in
+        above (L v) (L u) (cost (records T) v u) (omega (arith, cost-is m n, at-least (b .figure) (apart v u) (L v .len - L u .len) (t .1))) (leb-true _ _ (t .0)))
+        (λ c. lower (omega (arith, cost-is m n, at-least (b .figure) (apart v u) (L v .len + 1 - L u .len) c)))
+        (or-cases (leb (L v .hops) (1 + L u .hops) && atLeast (b .figure) (apart v u) (L v .len - L u .len)) _ r)
       where
         above : (a b : Label) (c : ℕ) → a .len ≤ c + b .len → a .hops ≤ 1 + b .hops → a ≼ hop c b
         above a b c l h = elim (decLt (a .len) (c + b .len)) [ yes k ↦ lower k | no k ↦ tied (omega arith) h ]
@@ -122,13 +127,13 @@ module _ (b : Book) (p q : Point) (L : ℕ → Label) where
     unfolding adds
     adds-of {v} {u} m n e s =
         let k : L v .len ≡ cost (records T) v u + L u .len = ap (λ (l : Label). l .len) s in
-        let r : rootUp (apart v u) ≡ L v .len - L u .len = omega (arith, cost-is m n) in
+        let r : charge (b .figure) (rootUp (apart v u)) ≡ L v .len - L u .len = omega (arith, cost-is m n) in
         rw (
           ne-eqb v u (e .0),
           seen-edge m n e,
           eq-eqb (L v .hops) (1 + L u .hops) (ap (λ (l : Label). l .hops) s),
           le-leb (L u .len) (L v .len) (omega arith),
-        ) (measures-of _ _ r)
+        ) (measures-of _ _ _ r)
 
     of-adds : {v u : ℕ} → At v → At u → adds v u ≡ true → G .Edge v u × (L v ≡ hop (cost (records T) v u) (L u))
     unfolding adds
@@ -137,7 +142,7 @@ module _ (b : Book) (p q : Point) (L : ℕ → Label) where
         let s = both (sees v u) _ (a .1) in
         let t = both (eqb (L v .hops) (1 + L u .hops)) _ (s .1) in
         let l = both (leb (L u .len) (L v .len)) _ (t .1) in
-        let r : rootUp (apart v u) ≡ L v .len - L u .len = measured _ _ (l .1) in
+        let r : charge (b .figure) (rootUp (apart v u)) ≡ L v .len - L u .len = measured _ _ _ (l .1) in
         let k : L v .len ≡ cost (records T) v u + L u .len = omega (arith, cost-is m n, leb-true (L u .len) (L v .len) (l .0)) in
         (edge-seen m n (eqb-false v u (not-true _ (a .0))) (s .0), label-eq k (eqb-true _ _ (t .0)))
 

@@ -12,13 +12,13 @@ use Rattle.lists.specs.Lists.{all}
 use Rattle.lists.proofs.Every.{both, and-yes, every-append}
 use Rattle.geometry.specs.Words.{Point}
 use Rattle.tables.specs.Tables.{Tables}
-use Rattle.records.specs.Questions.{placeRight}
+use Rattle.records.specs.Questions.{placeRight, figureRight}
 use Rattle.book.specs.Questions.{firstNo}
-use Rattle.book.specs.Book.{Book, Edit, addRun, emptyBook, free, questions, answer, written, withRun, step, afterAll, answers}
+use Rattle.book.specs.Book.{Book, Edit, addRun, setCharge, emptyBook, free, questions, answer, written, withRun, withFigure, step, afterAll, answers}
 use Rattle.book.specs.Drawing.{Drawn}
 use Rattle.book.proofs.Sound.{empty-sound, all-sound, step-done}
 use Rattle.book.proofs.Exists.{history-drawn-exists}
-use Rattle.trials.specs.Rows.{Blocks, addBlocks, yardEdits, Leaves}
+use Rattle.trials.specs.Rows.{Blocks, addBlocks, yardEdits, chargedEdits, Leaves}
 
 after-more : (b : Book) (es fs : List Edit) → afterAll b (es ++ fs) ≡ afterAll (afterAll b es) fs
 unfolding afterAll
@@ -36,6 +36,10 @@ blocksBook bs = afterAll emptyBook (addBlocks 0 bs)
 
 abbrev pub yardBook : Blocks → Point → Point → Book
 yardBook bs p q = withRun (blocksBook bs) 0 (p ∷ q ∷ [])
+
+-- and under a figure
+abbrev pub chargedBook : ℕ → Blocks → Point → Point → Book
+chargedBook f bs p q = withFigure (yardBook bs p q) f
 
 abbrev allZero : List ℕ → Bool
 allZero rs = all (λ r. eqb r 0) rs
@@ -67,3 +71,22 @@ module _ (bs : Blocks) (p q : Point) (s : stands bs ≡ true) (r : placeRight p 
 
   pub leaves : (P : Tables → Type 0) → ((T : Tables) → Drawn (yardBook bs p q) T → P T) → Leaves (yardEdits bs p q) P
   leaves P f = record { taken = all-taken; drawing = history-drawn-exists (yardEdits bs p q); each = λ T d. f T (rw yard-book at d) }
+
+  module _ (f : ℕ) (h : figureRight f ≡ true) where
+    set-taken : answer (yardBook bs p q) (setCharge f) ≡ 0
+    unfolding answer questions firstNo
+    set-taken = rw h
+
+    charged-book : afterAll emptyBook (chargedEdits f bs p q) ≡ chargedBook f bs p q
+    unfolding chargedEdits afterAll written
+    charged-book = after-more emptyBook (yardEdits bs p q) (setCharge f ∷ []) ∙ ap (λ (b : Book). step b (setCharge f)) yard-book ∙ step-done (yardBook bs p q) (setCharge f) set-taken
+
+    still-taken : allZero (answers emptyBook (chargedEdits f bs p q)) ≡ true
+    unfolding chargedEdits answers all
+    still-taken =
+        rw (answers-more emptyBook (yardEdits bs p q) (setCharge f ∷ []), yard-book)
+        (every-append (λ n. eqb n 0) (answers emptyBook (yardEdits bs p q)) (answer (yardBook bs p q) (setCharge f) ∷ [])
+        all-taken (and-yes (eqb (answer (yardBook bs p q) (setCharge f)) 0) true (eq-eqb _ 0 set-taken) refl))
+
+    pub charged-leaves : (P : Tables → Type 0) → ((T : Tables) → Drawn (chargedBook f bs p q) T → P T) → Leaves (chargedEdits f bs p q) P
+    charged-leaves P g = record { taken = still-taken; drawing = history-drawn-exists (chargedEdits f bs p q); each = λ T d. g T (rw charged-book at d) }

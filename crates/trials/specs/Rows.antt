@@ -10,7 +10,7 @@ use Rattle.geometry.specs.Words.{Point, word}
 use Rattle.lengths.specs.Length.{lengthOf}
 use Rattle.tables.specs.Tables.{Tables, pairIndex, routeWords}
 use Rattle.records.specs.Questions.{placeRight}
-use Rattle.book.specs.Book.{Edit, addBlock, addRun, emptyBook, afterAll, answers}
+use Rattle.book.specs.Book.{Edit, addBlock, addRun, setCharge, emptyBook, afterAll, answers}
 use Rattle.book.specs.Drawing.{Drawn}
 
 -- the corners of a yard's blocks, as words, east then north; the first are those of block 0
@@ -24,6 +24,8 @@ pub data Row : Type 0 where
   straight : Point → Point → ℕ → Row
   -- among the blocks, the length and the marks of the route between two places
   way : Blocks → Point → Point → ℕ → List ℕ → Row
+  -- the same under a figure
+  charged : ℕ → Blocks → Point → Point → ℕ → List ℕ → Row
   -- among the blocks, there is no way from or to a place
   shut : Blocks → Point → Row
   -- the answers to edits of the empty yard
@@ -37,6 +39,10 @@ addBlocks n (ws ∷ bs) = addBlock n ws ∷ addBlocks (suc n) bs
 -- the edits that make a yard: its blocks, and run 0 from p to q
 unfoldable pub yardEdits : Blocks → Point → Point → List Edit
 yardEdits bs p q = addBlocks 0 bs ++ (addRun 0 p q ∷ [])
+
+-- and those that then set a figure
+unfoldable pub chargedEdits : ℕ → Blocks → Point → Point → List Edit
+chargedEdits f bs p q = yardEdits bs p q ++ (setCharge f ∷ [])
 
 -- the book takes every one of the edits; what they leave has a fresh drawing, and P holds of it
 pub record Leaves (es : List Edit) (P : Tables → Type 0) : Type 0 where
@@ -60,6 +66,7 @@ unfoldable pub Holds : Row → Type 0
 Holds (sight bs p q b) = Leaves (yardEdits bs p q) (Byte b)
 Holds (straight p q l) = lengthOf p q ≡ l
 Holds (way bs p q l us) = Leaves (yardEdits bs p q) (Found l us)
+Holds (charged f bs p q l us) = Leaves (chargedEdits f bs p q) (Found l us)
 Holds (shut bs p) = (q : Point) → placeRight q ≡ true → Leaves (yardEdits bs p q) NoWay × Leaves (yardEdits bs q p) NoWay
 Holds (answered es rs) = answers emptyBook es ≡ rs
 

@@ -2,8 +2,8 @@
 use mathlib.Core.List.{List, [], _∷_}
 use Prim.Native.Nat.{ℕ}
 use Rattle.geometry.specs.Words.{point}
-use Rattle.book.specs.Book.{addBlock, addRun}
-use Rattle.trials.specs.Rows.{Blocks, Row, sight, straight, way, shut, answered}
+use Rattle.book.specs.Book.{addBlock, addRun, setCharge}
+use Rattle.trials.specs.Rows.{Blocks, Row, sight, straight, way, charged, shut, answered}
 
 -- square S, and the block that shares its east side
 abbrev pub square : List ℕ
@@ -32,6 +32,10 @@ tall = 10 ∷ 6 ∷ 14 ∷ 7 ∷ 14 ∷ 40 ∷ 10 ∷ 40 ∷ []
 
 abbrev pub small : List ℕ
 small = 11 ∷ 1 ∷ 13 ∷ 1 ∷ 12 ∷ 5 ∷ []
+
+-- a block that one way round has two short straights more, the other one long one
+abbrev pub slim : List ℕ
+slim = 8 ∷ 4 ∷ 10 ∷ 16 ∷ 8 ∷ 16 ∷ []
 
 unfoldable pub rows : List Row
 rows =
@@ -67,9 +71,19 @@ rows =
     -- the listed yard before block 1, and with it
     ∷ way (tall ∷ []) (point 0 10) (point 27 13) 31 (192 ∷ 0 ∷ 1 ∷ 193 ∷ [])
     ∷ way (tall ∷ small ∷ []) (point 0 10) (point 27 13) 30 (192 ∷ 10 ∷ 193 ∷ [])
+    -- 10, 2 and 4 give way to 10 and 10: charged at least 6; charged at least 5, as much but more straights
+    ∷ way (slim ∷ []) (point 0 10) (point 11 13) 16 (192 ∷ 2 ∷ 1 ∷ 193 ∷ [])
+    ∷ charged 4 (slim ∷ []) (point 0 10) (point 11 13) 18 (192 ∷ 2 ∷ 1 ∷ 193 ∷ [])
+    ∷ charged 5 (slim ∷ []) (point 0 10) (point 11 13) 20 (192 ∷ 0 ∷ 193 ∷ [])
+    ∷ charged 6 (slim ∷ []) (point 0 10) (point 11 13) 20 (192 ∷ 0 ∷ 193 ∷ [])
+    -- a straight of length 0 is free, one of length 1 is charged the figure
+    ∷ charged 1000 [] (point 5 5) (point 5 5) 0 (192 ∷ 193 ∷ [])
+    ∷ charged 1000 [] (point 5 5) (point 5 6) 1000 (192 ∷ 193 ∷ [])
     -- the five-corner star turns left at each corner and is not convex
     ∷ answered (addBlock 0 (10 ∷ 0 ∷ 16 ∷ 20 ∷ 0 ∷ 8 ∷ 20 ∷ 8 ∷ 4 ∷ 20 ∷ []) ∷ []) (8 ∷ [])
     -- coordinate 32,767 and 32,768; number 23 and 24
     ∷ answered (addRun 0 (point 0 0) (point 32767 0) ∷ addRun 1 (point 0 0) (point 32768 0) ∷ []) (0 ∷ 7 ∷ [])
     ∷ answered (addBlock 23 square ∷ addBlock 24 square ∷ []) (0 ∷ 3 ∷ [])
+    -- the figure 1,000 and 1,001
+    ∷ answered (setCharge 1000 ∷ setCharge 1001 ∷ []) (0 ∷ 13 ∷ [])
     ∷ []
