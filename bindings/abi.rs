@@ -30,6 +30,10 @@ extern "C" {
         b: *mut u16, bl: usize, r: *mut u16, rl: usize, p: *mut u8, pl: usize, w: *mut u32, wl: usize,
         number: u32, e0: u16, n0: u16, e1: u16, n1: u16,
     ) -> u32;
+    pub fn yard_set_charge(
+        b: *mut u16, bl: usize, r: *mut u16, rl: usize, p: *mut u8, pl: usize, w: *mut u32, wl: usize,
+        figure: u16,
+    ) -> u32;
     pub fn yard_check(
         b: *const u16, bl: usize, r: *const u16, rl: usize, p: *const u8, pl: usize, w: *const u32, wl: usize,
     ) -> u32;

@@ -78,6 +78,7 @@ impl Planner for Linked {
             Edit::AddRun(m, e) => fenced_call!(t, yard_add_run, *m, e[0], e[1], e[2], e[3]),
             Edit::RemoveRun(m) => fenced_call!(t, yard_remove_run, *m),
             Edit::MoveRun(m, e) => fenced_call!(t, yard_move_run, *m, e[0], e[1], e[2], e[3]),
+            Edit::SetCharge(figure) => fenced_call!(t, yard_set_charge, *figure),
         }
     }
 

@@ -1,7 +1,9 @@
 //! The four tables, the edits, and what a planner does with them.
 
 pub const BLOCKS: usize = 408;
-pub const RUNS: usize = 120;
+pub const RUNS: usize = 121;
+/// The word of the run table that holds the least charge of a straight.
+pub const FIGURE: usize = 120;
 pub const PAIRS: usize = 28680;
 pub const ROUTES: usize = 4728;
 
@@ -23,7 +25,7 @@ impl Tables {
         self.pairs[pair_index(i, j)]
     }
 
-    /// State, length and marks of run m's route.
+    /// State, summed charges and marks of run m's route.
     pub fn route(&self, m: usize) -> (u32, u32, &[u32]) {
         let words = &self.routes[197 * m..197 * m + 197];
         (words[0], words[1], &words[3..3 + (words[2] as usize).min(194)])
@@ -35,7 +37,8 @@ impl Tables {
             return Some(format!("blocks word {at} (block {}) is {}, should be {}", at / 17, show(&self.blocks, at), show(&right.blocks, at)));
         }
         if let Some(at) = first_difference(&self.runs, &right.runs) {
-            return Some(format!("runs word {at} (run {}) is {}, should be {}", at / 5, show(&self.runs, at), show(&right.runs, at)));
+            let what = if at < FIGURE { format!("run {}", at / 5) } else { "the least charge".to_string() };
+            return Some(format!("runs word {at} ({what}) is {}, should be {}", show(&self.runs, at), show(&right.runs, at)));
         }
         if let Some(at) = first_difference(&self.pairs, &right.pairs) {
             let j = (1..240).rev().find(|j| j * (j - 1) / 2 <= at).unwrap_or(0);
@@ -77,6 +80,7 @@ pub enum Edit {
     AddRun(u32, [u16; 4]),
     RemoveRun(u32),
     MoveRun(u32, [u16; 4]),
+    SetCharge(u16),
 }
 
 pub trait Planner {
