@@ -2,9 +2,13 @@
 //! Also a redraw from nothing, for comparison.
 
 pub const BLOCKS: usize = 408;
-pub const RUNS: usize = 120;
+pub const RUNS: usize = 121;
 pub const PAIRS: usize = 28680;
 pub const ROUTES: usize = 4728;
+
+/// The word of runs that holds the least charge, and the largest that it may be.
+const FIGURE: usize = 120;
+const LARGEST_FIGURE: u16 = 1000;
 
 /// The four lent tables.
 pub struct Yard<'a> {
@@ -183,6 +187,17 @@ fn root_up(x: u32) -> u32 {
     }
 }
 
+/// What a straight is charged, by its squares. A root is asked for only where it is longer than the figure.
+fn charge(square: u32, figure: u32) -> u32 {
+    if square == 0 {
+        0
+    } else if square <= figure * figure {
+        figure
+    } else {
+        root_up(square)
+    }
+}
+
 fn pair_index(i: usize, j: usize) -> usize {
     if i < j {
         j * (j - 1) / 2 + i
@@ -238,7 +253,7 @@ fn run_allowed(words: &[u16]) -> bool {
 /// The key of a mark that no chain is known from. Keys of chains are less, and a key with what is ahead still fits.
 const NONE: u32 = 4_000_000_000;
 
-/// For each mark 256 x length + straights of the best chain from it to the second end, as far as known.
+/// For each mark 256 x charges + straights of the best chain from it to the second end, as far as known.
 type Keys = [u32; 240];
 
 /// For each waiting mark 256 x how far it is from the first end at least.
@@ -263,7 +278,13 @@ impl Yard<'_> {
     }
 
     fn question_2(&self) -> bool {
-        (0..24).all(|n| block_allowed(block_words(self.blocks, n))) && (0..24).all(|m| run_allowed(&self.runs[5 * m..5 * m + 5]))
+        (0..24).all(|n| block_allowed(block_words(self.blocks, n)))
+            && (0..24).all(|m| run_allowed(&self.runs[5 * m..5 * m + 5]))
+            && self.runs[FIGURE] <= LARGEST_FIGURE
+    }
+
+    fn figure(&self) -> u32 {
+        self.runs[FIGURE] as u32
     }
 
     /// Questions 1, 2, 3, and 4 or 5.
@@ -390,6 +411,21 @@ impl Yard<'_> {
             return answer;
         }
         self.write_run(number as usize, [0; 5])
+    }
+
+    pub fn set_charge(&mut self, figure: u16) -> u32 {
+        if !self.question_1() {
+            return 1;
+        }
+        if !self.question_2() {
+            return 2;
+        }
+        if figure > LARGEST_FIGURE {
+            return 13;
+        }
+        self.runs[FIGURE] = figure;
+        self.write_routes();
+        0
     }
 
     pub fn check(&mut self) -> u32 {
@@ -553,12 +589,12 @@ impl Yard<'_> {
         if old < key + 2 || !self.clear(v, s) {
             return old;
         }
-        let longest = ((old - key - 2) / 256) as u64;
+        let most = (old - key - 2) / 256;
         let square = squares(place(self.blocks, self.runs, v), from);
-        if square as u64 > longest * longest {
+        if square as u64 > most as u64 * most as u64 || (square > 0 && self.figure() > most) {
             return old;
         }
-        key + 256 * root_up(square) + 1
+        key + 256 * charge(square, self.figure()) + 1
     }
 
     /// Forwards from the first end, always to the lowest mark on a best chain.
@@ -578,7 +614,7 @@ impl Yard<'_> {
         self.routes[base + 2] = count as u32;
     }
 
-    /// Whether the straight from v to u is clear and as long as their keys say.
+    /// Whether the straight from v to u is clear and charged what their keys say.
     fn tight(&self, keys: &Keys, v: usize, u: usize) -> bool {
         if keys[u] >= keys[v] {
             return false;
@@ -587,8 +623,8 @@ impl Yard<'_> {
         if gap % 256 != 1 || !self.clear(v, u) {
             return false;
         }
-        let length = (gap / 256) as u64;
+        let most = gap / 256;
         let square = self.squares_of(v, u);
-        square as u64 <= length * length && root_up(square) as u64 == length
+        square as u64 <= most as u64 * most as u64 && charge(square, self.figure()) == most
     }
 }

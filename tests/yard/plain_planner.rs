@@ -26,6 +26,7 @@ impl Planner for Plain {
             Edit::AddRun(m, ends) => y.add_run(*m, *ends),
             Edit::RemoveRun(m) => y.remove_run(*m),
             Edit::MoveRun(m, ends) => y.move_run(*m, *ends),
+            Edit::SetCharge(figure) => y.set_charge(*figure),
         }
     }
 
