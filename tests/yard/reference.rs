@@ -2,7 +2,7 @@
 //! lines, seams by points that are tried, roots by bisection, routes by correcting labels that carry their whole list of
 //! marks from the first end.
 
-use crate::tables::{pair_index, Edit, Tables, BLOCKS, PAIRS, ROUTES, RUNS};
+use crate::tables::{pair_index, Edit, Tables, BLOCKS, FIGURE, PAIRS, ROUTES, RUNS};
 use std::collections::VecDeque;
 
 pub type Place = (i64, i64);
@@ -148,6 +148,14 @@ pub fn length(a: Place, b: Place) -> u64 {
     enough
 }
 
+/// The largest least charge that a yard may keep.
+const LARGEST_FIGURE: u16 = 1000;
+
+/// What a straight is charged: its length, but at least the figure; nothing from a place to itself.
+pub fn charge(figure: u16, a: Place, b: Place) -> u64 {
+    if a == b { 0 } else { length(a, b).max(figure.into()) }
+}
+
 pub fn convex(corners: &[Place]) -> bool {
     let count = corners.len();
     (0..count).all(|k| {
@@ -164,25 +172,27 @@ fn in_range(p: &Place) -> bool {
     (0..=32767).contains(&p.0) && (0..=32767).contains(&p.1)
 }
 
-/// The plain book: the corners of each block and the ends of each run; an empty place has none.
+/// The plain book: the corners of each block and the ends of each run, an empty place having none; and the least charge.
 #[derive(Clone)]
 pub struct Book {
     pub blocks: Vec<Vec<Place>>,
     pub runs: Vec<Vec<Place>>,
+    pub figure: u16,
 }
 
 impl Book {
     pub fn new() -> Book {
-        Book { blocks: vec![vec![]; 24], runs: vec![vec![]; 24] }
+        Book { blocks: vec![vec![]; 24], runs: vec![vec![]; 24], figure: 0 }
     }
 
-    /// Questions 3 to 8.
+    /// Questions 3 to 8 and 13.
     pub fn answer(&self, e: &Edit) -> u32 {
         let (of, number, adding) = match e {
             Edit::AddBlock(n, _) => (&self.blocks, *n, true),
             Edit::RemoveBlock(n) | Edit::MoveBlock(n, _, _) => (&self.blocks, *n, false),
             Edit::AddRun(m, _) => (&self.runs, *m, true),
             Edit::RemoveRun(m) | Edit::MoveRun(m, _) => (&self.runs, *m, false),
+            Edit::SetCharge(figure) => return if *figure > LARGEST_FIGURE { 13 } else { 0 },
         };
         if number >= 24 {
             return 3;
@@ -211,7 +221,7 @@ impl Book {
                 self.blocks[*n as usize].iter().map(|p| (p.0 + *east as i64, p.1 + *north as i64)).collect()
             }
             Edit::AddRun(_, ends) | Edit::MoveRun(_, ends) => places(ends),
-            Edit::RemoveBlock(_) | Edit::RemoveRun(_) => vec![],
+            Edit::RemoveBlock(_) | Edit::RemoveRun(_) | Edit::SetCharge(_) => vec![],
         }
     }
 
@@ -222,6 +232,7 @@ impl Book {
             match e {
                 Edit::AddBlock(n, _) | Edit::RemoveBlock(n) | Edit::MoveBlock(n, _, _) => self.blocks[*n as usize] = left,
                 Edit::AddRun(m, _) | Edit::RemoveRun(m) | Edit::MoveRun(m, _) => self.runs[*m as usize] = left,
+                Edit::SetCharge(figure) => self.figure = *figure,
             }
         }
         answer
@@ -259,6 +270,7 @@ impl Book {
     pub fn write_records(&self, t: &mut Tables) {
         t.blocks.fill(0);
         t.runs.fill(0);
+        t.runs[FIGURE] = self.figure;
         for (n, corners) in self.blocks.iter().enumerate() {
             t.blocks[17 * n] = corners.len() as u16;
             for (k, c) in corners.iter().enumerate() {
@@ -277,15 +289,25 @@ impl Book {
 
     /// The fresh drawing.
     pub fn drawing(&self) -> Tables {
-        self.drawing_with(self.byte())
+        self.drawing_with(self.byte(), self.price())
     }
 
     /// As it was drawn before seams were hidden.
     pub fn drawing_before_seams(&self) -> Tables {
-        self.drawing_with(|a, b| self.byte_before_seams(a, b))
+        self.drawing_with(|a, b| self.byte_before_seams(a, b), self.price())
     }
 
-    fn drawing_with(&self, byte: impl Fn(Option<Place>, Option<Place>) -> u8) -> Tables {
+    /// As if each straight were charged its plain length, whatever the figure.
+    pub fn drawing_by_lengths(&self) -> Tables {
+        self.drawing_with(self.byte(), length)
+    }
+
+    fn price(&self) -> impl Fn(Place, Place) -> u64 {
+        let figure = self.figure;
+        move |a, b| charge(figure, a, b)
+    }
+
+    fn drawing_with(&self, byte: impl Fn(Option<Place>, Option<Place>) -> u8, price: impl Fn(Place, Place) -> u64) -> Tables {
         let mut t = Tables { blocks: vec![0; BLOCKS], runs: vec![0; RUNS], pairs: vec![255; PAIRS], routes: vec![0; ROUTES] };
         self.write_records(&mut t);
         let marks = self.marks();
@@ -294,16 +316,16 @@ impl Book {
                 t.pairs[pair_index(i, j)] = byte(marks[i], marks[j]);
             }
         }
-        self.write_routes(&mut t);
+        self.write_routes(&mut t, price);
         t
     }
 
-    /// The routes of the graph that the pair bytes say, right or wrong.
-    fn write_routes(&self, t: &mut Tables) {
+    /// The routes of the graph that the pair bytes say, right or wrong, each straight at its price.
+    fn write_routes(&self, t: &mut Tables, price: impl Fn(Place, Place) -> u64) {
         let marks = self.marks();
         let corners: Vec<usize> = (0..192).filter(|&i| marks[i].is_some()).collect();
         let straight = |i: usize, j: usize| match t.pairs[pair_index(i, j)] {
-            254 => Some((j, length(marks[i]?, marks[j]?))),
+            254 => Some((j, price(marks[i]?, marks[j]?))),
             _ => None,
         };
         let from: Vec<Vec<(usize, u64)>> = (0..192)
@@ -323,8 +345,8 @@ impl Book {
             });
             match route {
                 None => words[0] = 2,
-                Some((length, marks)) => {
-                    words[..3].copy_from_slice(&[1, length as u32, marks.len() as u32]);
+                Some((sum, marks)) => {
+                    words[..3].copy_from_slice(&[1, sum as u32, marks.len() as u32]);
                     for (word, mark) in words[3..].iter_mut().zip(marks) {
                         *word = mark as u32;
                     }
@@ -335,7 +357,7 @@ impl Book {
     }
 }
 
-/// The least summed length, then the fewest straights, then the first list of marks.
+/// The least sum of prices, then the fewest straights, then the first list of marks.
 fn best_chain(first: usize, second: usize, from: impl Fn(usize) -> Vec<(usize, u64)>) -> Option<(u64, Vec<usize>)> {
     let mut best: Vec<Option<(u64, Vec<usize>)>> = vec![None; 240];
     best[first] = Some((0, vec![first]));
@@ -370,7 +392,7 @@ fn lengths_right(t: &Tables) -> bool {
     (t.blocks.len(), t.runs.len(), t.pairs.len(), t.routes.len()) == (BLOCKS, RUNS, PAIRS, ROUTES)
 }
 
-/// Question 2: the book that the stored records say, if each is one that the tables allow.
+/// Question 2: the book that the stored records and figure say, if each is one that the tables allow.
 pub fn stored_book(t: &Tables) -> Option<Book> {
     let mut book = Book::new();
     for (n, words) in t.blocks.chunks(17).enumerate() {
@@ -384,14 +406,15 @@ pub fn stored_book(t: &Tables) -> Option<Book> {
         }
         book.blocks[n] = corners;
     }
-    for (m, words) in t.runs.chunks(5).enumerate() {
+    for (m, words) in t.runs[..FIGURE].chunks(5).enumerate() {
         match words[0] {
             0 if words == [0; 5] => {}
             1 if words[1..].iter().all(|&w| w < 32768) => book.runs[m] = places(&words[1..]),
             _ => return None,
         }
     }
-    Some(book)
+    book.figure = t.runs[FIGURE];
+    (book.figure <= LARGEST_FIGURE).then_some(book)
 }
 
 /// The answer and the tables that an edit must leave over any tables, right or wrong.
@@ -405,7 +428,7 @@ pub fn edited(t: &Tables, e: &Edit) -> (u32, Tables) {
     if answer == 0 {
         book.write_records(&mut after);
         treat_pairs(&book, e, &mut after.pairs);
-        book.write_routes(&mut after);
+        book.write_routes(&mut after, book.price());
     }
     (answer, after)
 }
@@ -416,6 +439,7 @@ fn treat_pairs(book: &Book, e: &Edit, pairs: &mut [u8]) {
     let (own, block) = match e {
         Edit::AddBlock(n, _) | Edit::RemoveBlock(n) | Edit::MoveBlock(n, _, _) => (8 * *n as usize..8 * *n as usize + 8, Some(*n as u8)),
         Edit::AddRun(m, _) | Edit::RemoveRun(m) | Edit::MoveRun(m, _) => (192 + 2 * *m as usize..194 + 2 * *m as usize, None),
+        Edit::SetCharge(_) => return,
     };
     for j in 0..240 {
         for i in 0..j {
