@@ -283,12 +283,16 @@ fn too_many_blocks(report: &mut Report) {
     });
 }
 
+pub fn one_run(r: &mut Random, book: &Book, run: usize, calls: &mut usize) -> Result<(), String> {
+    *calls += 1;
+    compared::<Duct>(r, book, run)
+}
+
 /// The duct of every run that stands: whether each has a way.
 pub fn every_run(r: &mut Random, book: &Book, calls: &mut usize) -> Result<Vec<bool>, String> {
     let runs = (0..24).filter(|&run| !book.runs[run].is_empty());
     runs.map(|run| {
-        *calls += 1;
-        compared::<Duct>(r, book, run)?;
+        one_run(r, book, run, calls)?;
         Ok(Lines::new(book, &book.runs[run]).least().is_some())
     })
     .collect()
@@ -298,8 +302,7 @@ pub fn every_run(r: &mut Random, book: &Book, calls: &mut usize) -> Result<Vec<b
 pub fn one(r: &mut Random, calls: &mut usize) -> Result<(), String> {
     let kind = if r.percent(50) { r.pick(&KINDS) } else { r.pick(&SMALL_KINDS) };
     let (book, run) = kind.yard(r);
-    *calls += 1;
-    compared::<Duct>(r, &book, run)
+    one_run(r, &book, run, calls)
 }
 
 pub fn ducts(report: &mut Report) {

@@ -5,6 +5,7 @@
 mod abi;
 #[cfg(not(plain))]
 mod bends;
+mod charges;
 mod degenerate;
 mod duct_router;
 mod duct_yards;
@@ -46,7 +47,7 @@ use random::{Random, Style, FULL, STYLES};
 use reference::Book;
 use std::panic::{catch_unwind, AssertUnwindSafe};
 use std::time::Instant;
-use tables::{Edit, Planner, Tables, BLOCKS, PAIRS, ROUTES, RUNS};
+use tables::{Edit, Planner, Tables, BLOCKS, FIGURE, PAIRS, ROUTES, RUNS};
 
 #[cfg(not(plain))]
 fn planner() -> impl Planner {
@@ -284,6 +285,8 @@ fn every_edit(r: &mut Random) -> Vec<Edit> {
         Edit::AddRun(n, [0, 15, 30, 15]),
         Edit::RemoveRun(n),
         Edit::MoveRun(n, [0, 15, 30, 40000]),
+        Edit::SetCharge(500),
+        Edit::SetCharge(1001),
     ]
 }
 
@@ -339,7 +342,7 @@ fn wrong_lengths(p: &impl Planner, report: &mut Report) {
 /// Change some words of the records.
 fn scramble(r: &mut Random, t: &mut Tables) {
     let word = |r: &mut Random| r.pick(&[0, 1, 2, 3, 4, 8, 9, 15, 100, 32767, 32768, 65535, 12345]);
-    match r.below(8) {
+    match r.below(9) {
         0 => t.blocks.iter_mut().for_each(|w| *w = r.next() as u16),
         1 => t.runs.iter_mut().for_each(|w| *w = r.next() as u16),
         2 => {
@@ -362,6 +365,7 @@ fn scramble(r: &mut Random, t: &mut Tables) {
             let at = r.below(BLOCKS);
             t.blocks[at] = t.blocks[at].wrapping_add(r.pick(&[1, 65535, 2, 5]));
         }
+        7 => t.runs[FIGURE] = r.pick(&[1, 500, 1000, 1001, 1024, 65535]),
         _ => {
             let at = r.below(BLOCKS);
             t.blocks[at] = word(r);
@@ -383,7 +387,7 @@ fn wrong_records(p: &impl Planner, report: &mut Report) {
                 refused += 1;
             }
             for k in 0..4 {
-                let e = if k == 0 { every_edit(&mut r).swap_remove(r.below(7)) } else { random::edit(&mut r, &s, &book) };
+                let e = if k == 0 { every_edit(&mut r).swap_remove(r.below(9)) } else { random::edit(&mut r, &s, &book) };
                 let (right, after) = reference::edited(&t, &e);
                 let words = format!("{e:?} over blocks {:?} runs {:?}", t.blocks, t.runs);
                 let answer = p.edit(&mut t, &e);
@@ -497,6 +501,7 @@ fn main() {
     report.end_group("shortcuts");
     own_parts(&mut report);
     seams::own_parts(&mut report);
+    charges::own_parts(&mut report);
     report.end_group("the second planner's parts");
     rectangles::edges(&p, &mut report);
     report.end_group("edges of rectangles");
@@ -508,6 +513,8 @@ fn main() {
     report.end_group("degenerate yards, small and stretched");
     seams::seams(&p, &mut report);
     report.end_group("seams");
+    charges::charges(&p, &mut report);
+    report.end_group("charges");
     spoiled_tables(&p, &mut report);
     longest_routes(&p, &mut report);
     report.end_group("spoiled pairs and routes");

@@ -414,7 +414,7 @@ fn spoiled(r: &mut Random, right: &Tables, run: usize) -> Vec<(&'static str, Tab
 }
 
 /// Both calls over tables, for some runs, each with its number.
-fn refused(r: &mut Random, t: &Tables, rows: &[(u32, u32)], calls: &mut usize) -> Result<(), String> {
+pub fn refused(r: &mut Random, t: &Tables, rows: &[(u32, u32)], calls: &mut usize) -> Result<(), String> {
     for &(run, number) in rows {
         Lent::<Drawn<false>>::over(r, t.clone()).answered(run, number, calls)?;
         Lent::<Drawn<true>>::over(r, t.clone()).answered(run, number, calls)?;

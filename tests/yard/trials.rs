@@ -1,6 +1,6 @@
 //! The rows of docs/RULES.md: "Trial yards", the listed yard, and "Shortcuts that cost a trench".
 
-use crate::tables::{Edit, Planner, Tables};
+use crate::tables::{Edit, Planner, Tables, FIGURE};
 use crate::{same_answer, started, Report};
 
 const S: [u16; 8] = [10, 10, 20, 10, 20, 20, 10, 20];
@@ -133,6 +133,19 @@ pub fn trial_yards(p: &impl Planner, report: &mut Report) {
         let all = [square(23), Edit::MoveBlock(23, 1, 1), Edit::RemoveBlock(23), Edit::AddRun(23, [0, 15, 30, 15]), Edit::MoveRun(23, [1, 1, 2, 2]), Edit::RemoveRun(23)];
         yard(p, &all, calls).map(drop)
     });
+    for figure in [0, 1, 999, 1000] {
+        report.case(&format!("a least charge of {figure} is taken"), |calls| {
+            let t = yard(p, &[square(0), run([0, 10, 30, 10]), Edit::SetCharge(figure)], calls)?;
+            same(t.runs[FIGURE], figure)?;
+            same(t.route(0), (1, u32::from(figure.max(30)), &[192, 193][..]))
+        });
+    }
+    for figure in [1001, 1002, 1024, 32767, 32768, 65535] {
+        report.case(&format!("a least charge of {figure}"), |calls| {
+            refusal(p, &[], Edit::SetCharge(figure), 13, calls)?;
+            refusal(p, &[square(0), run([0, 10, 30, 10]), Edit::SetCharge(40)], Edit::SetCharge(figure), 13, calls)
+        });
+    }
     for number in [24, 25, 256, 65536, u32::MAX] {
         report.case(&format!("number {number}"), |calls| {
             for e in [square(number), Edit::AddBlock(number, vec![]), Edit::RemoveBlock(number), Edit::MoveBlock(number, i16::MIN, 0)] {
@@ -171,6 +184,7 @@ fn questions_in_order(p: &impl Planner, report: &mut Report) {
         (Edit::AddBlock(0, vec![10, 10, 10, 10, 20, 20]), 8),
         (Edit::AddBlock(0, vec![0, 0, 1, 1, 2, 2]), 8),
         (Edit::AddBlock(0, vec![0; 16]), 8),
+        (Edit::SetCharge(1001), 13),
     ];
     for (e, answer) in rows {
         report.case(&format!("{e:?}"), |calls| refusal(p, &have, e.clone(), answer, calls));
