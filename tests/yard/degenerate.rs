@@ -54,7 +54,7 @@ impl Stretch {
             Edit::MoveBlock(n, east, north) => Edit::MoveBlock(*n, step(self.east, *east), step(self.north, *north)),
             Edit::AddRun(m, e) => Edit::AddRun(*m, ends(e)),
             Edit::MoveRun(m, e) => Edit::MoveRun(*m, ends(e)),
-            Edit::RemoveBlock(_) | Edit::RemoveRun(_) => e.clone(),
+            Edit::RemoveBlock(_) | Edit::RemoveRun(_) | Edit::SetCharge(_) => e.clone(),
         }
     }
 }
@@ -117,7 +117,8 @@ pub fn words(places: &[Place]) -> Vec<u16> {
     places.iter().flat_map(|c| [c.0 as u16, c.1 as u16]).collect()
 }
 
-/// Blocks that have to do with each other and runs along them, then moves of blocks onto corners of others.
+/// Blocks that have to do with each other and runs along them, then moves of blocks onto corners of others; now and then a
+/// least charge.
 fn list(r: &mut Random, s: &Style) -> Vec<Edit> {
     let mut blocks = vec![good_corners(r, s)];
     for _ in 0..200 {
@@ -146,6 +147,10 @@ fn list(r: &mut Random, s: &Style) -> Vec<Edit> {
             blocks[n] = moved(&blocks[n], by);
         }
         edits.push(Edit::MoveBlock(n as u32, by.0 as i16, by.1 as i16));
+    }
+    for _ in 0..r.below(3) {
+        let at = r.below(edits.len() + 1);
+        edits.insert(at, Edit::SetCharge(random::figure(r, s)));
     }
     edits
 }

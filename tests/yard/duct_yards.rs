@@ -91,7 +91,7 @@ impl Kind {
         vec![first, if r.percent(8) { first } else { self.end(r, book) }]
     }
 
-    /// Some blocks under any numbers, a run, and others that its duct has nothing to do with.
+    /// Some blocks under any numbers, a run, and others and a least charge that its duct has nothing to do with.
     pub fn yard(&self, r: &mut Random) -> (Book, usize) {
         let mut book = Book::new();
         for _ in 0..r.between(self.least as i64, self.blocks as i64) {
@@ -109,6 +109,7 @@ impl Kind {
                 book.runs[run] = other;
             }
         }
+        book.figure = r.pick(&[0, 0, 0, 1, 26, 500, 1000]);
         (book, run)
     }
 }

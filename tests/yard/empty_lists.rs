@@ -45,10 +45,12 @@ fn tables(report: &mut Report) {
                 with_tables!(t, missing, yard_add_run, 0, 1, 2, 3, 4),
                 with_tables!(t, missing, yard_remove_run, 4),
                 with_tables!(t, missing, yard_move_run, 4, 1, 2, 3, 4),
+                with_tables!(t, missing, yard_set_charge, 500),
+                with_tables!(t, missing, yard_set_charge, 1001),
                 with_tables!(t, missing, yard_check),
             ];
             *calls += answers.len();
-            if answers != [1; 9] {
+            if answers != [1; 11] {
                 return Err(format!("{answers:?}"));
             }
             same_tables("nothing is stored", &t, &before)?;

@@ -4,7 +4,7 @@
 use crate::duct_yards::{seeded, shown, SMALL};
 use crate::random::Random;
 use crate::reference::{stored_book, Book};
-use crate::tables::{Tables, BLOCKS, PAIRS, ROUTES, RUNS};
+use crate::tables::{Tables, BLOCKS, FIGURE, PAIRS, ROUTES, RUNS};
 use crate::{same_answer, scramble, spoil, Report};
 
 /// The lists that a call fills.
@@ -121,13 +121,14 @@ pub fn compared<L: Lists>(r: &mut Random, book: &Book, run: usize) -> Result<(),
 
 const NUMBERS: [u32; 9] = [24, 25, 31, 48, 255, 65535, 65536, 1 << 31, u32::MAX];
 
-/// A yard of so many blocks and, of the runs, just the one with this number.
+/// A yard of so many blocks and, of the runs, just the one with this number, under any least charge.
 pub fn yard_of(r: &mut Random, blocks: usize, run: usize) -> Book {
     let mut book = Book::new();
     while book.blocks.iter().filter(|b| !b.is_empty()).count() < blocks {
         book.blocks[r.below(24)] = SMALL.block(r);
     }
     book.runs[run] = vec![(r.between(0, 5), r.between(0, 5)), (r.between(0, 5), r.between(0, 5))];
+    book.figure = r.pick(&[0, 0, 1, 3, 25, 1000]);
     book
 }
 
@@ -154,6 +155,7 @@ pub fn refusals<L: Lists>(report: &mut Report) {
     wrong_lengths::<L>(report);
     wrong_blocks::<L>(report);
     wrong_runs::<L>(report);
+    wrong_figures::<L>(report);
     changed_records::<L>(report);
 }
 
@@ -238,6 +240,19 @@ fn wrong_runs<L: Lists>(report: &mut Report) {
             wrong_record::<L>(report, &format!("state {state} and word {k} {word}"), 5, |t| &mut t.runs, &record);
         }
     }
+}
+
+fn wrong_figures<L: Lists>(report: &mut Report) {
+    report.case(&format!("{} over a least charge above 1,000", L::NAME), |calls| {
+        for (k, figure) in [1001, 1002, 1024, 2000, 32767, 32768, 65535].into_iter().enumerate() {
+            let mut r = seeded(460_000 + k);
+            let book = yard_of(&mut r, 3, 3);
+            let mut lent = Lent::<L>::new(&mut r, &book);
+            lent.tables.runs[FIGURE] = figure;
+            [3, 4, 24, u32::MAX].iter().try_for_each(|&run| lent.answered(run, 2, calls))?;
+        }
+        Ok(())
+    });
 }
 
 /// Records with some words changed, for any run.

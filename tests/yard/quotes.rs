@@ -41,6 +41,7 @@ impl Lists for Route {
         let mut alone = Book::new();
         alone.blocks.clone_from(&book.blocks);
         alone.runs[run].clone_from(&book.runs[run]);
+        alone.figure = book.figure;
         Ok(Route(stored(&alone.drawing(), run).to_vec()))
     }
 
@@ -179,11 +180,15 @@ fn mazes(report: &mut Report) {
                         return Err(format!("only {} marks: {}", least.0[2], shown(&book, 0)));
                     }
                     every_run(&mut r, &book, calls)?;
-                    // the other way round, and without one of the walls
+                    // the other way round, without one of the walls, and under least charges
                     book.runs[0].reverse();
                     every_run(&mut r, &book, calls)?;
                     book.blocks[r.below(8)].clear();
                     every_run(&mut r, &book, calls)?;
+                    for figure in [1000, 1 + r.below(999)] {
+                        book.figure = figure as u16;
+                        every_run(&mut r, &book, calls)?;
+                    }
                 }
                 Ok(())
             });

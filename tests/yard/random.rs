@@ -217,6 +217,15 @@ fn add_block(r: &mut Random, s: &Style, book: &Book) -> Edit {
     Edit::AddBlock(number(r, &book.blocks, false), corners)
 }
 
+/// A least charge: none, one that straights of the yard may be shorter than, the largest, or one that is too large.
+pub fn figure(r: &mut Random, s: &Style) -> u16 {
+    match r.below(12) {
+        0..=4 => 0,
+        5..=7 => r.between(1, ((s.high - s.low) / 2).clamp(1, 1000)) as u16,
+        _ => r.pick(&[1, 500, 999, 1000, 1001, 65535]),
+    }
+}
+
 pub fn edit(r: &mut Random, s: &Style, book: &Book) -> Edit {
     let blocks = book.blocks.iter().filter(|b| !b.is_empty()).count();
     let runs = book.runs.iter().filter(|b| !b.is_empty()).count();
@@ -228,8 +237,9 @@ pub fn edit(r: &mut Random, s: &Style, book: &Book) -> Edit {
         65..=74 => Edit::MoveRun(number(r, &book.runs, true), ends(r, s, book)),
         75..=82 => Edit::RemoveBlock(number(r, &book.blocks, true)),
         83..=87 => Edit::RemoveRun(number(r, &book.runs, true)),
-        88..=94 => add_block(r, s, book),
-        _ => Edit::AddRun(number(r, &book.runs, false), ends(r, s, book)),
+        88..=93 => add_block(r, s, book),
+        94 | 95 => Edit::AddRun(number(r, &book.runs, false), ends(r, s, book)),
+        _ => Edit::SetCharge(figure(r, s)),
     }
 }
 

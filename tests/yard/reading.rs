@@ -18,6 +18,7 @@ fn own_read(file: &[u8], at: usize) -> Result<[u64; 4], u32> {
         Some([2 | 5, _, ..]) => 0,
         Some([3, _, ..]) => 4,
         Some([4 | 6, _, ..]) => 8,
+        Some([7, _, ..]) => 2,
         _ => return Err(10),
     };
     if rest.map_or(0, |r| r.len()) < 2 + body {
@@ -29,12 +30,13 @@ fn own_read(file: &[u8], at: usize) -> Result<[u64; 4], u32> {
 fn random_file(r: &mut Random) -> Vec<u8> {
     let mut file = b"YRD\x01\x00".to_vec();
     for _ in 0..r.below(12) {
-        let kind = if r.below(8) == 0 { r.below(256) as u8 } else { 1 + r.below(6) as u8 };
+        let kind = if r.below(8) == 0 { r.below(256) as u8 } else { 1 + r.below(7) as u8 };
         let count = [0, 3, 8, 255][r.below(4)];
         let size = match kind {
             1 => 4 * count as usize,
             3 => 4,
             4 | 6 => 8,
+            7 => 2,
             _ => 0,
         };
         file.extend([kind, r.below(30) as u8]);
@@ -46,7 +48,7 @@ fn random_file(r: &mut Random) -> Vec<u8> {
     match r.below(8) {
         0 => file.truncate(r.below(file.len() + 1)),
         1 => file[r.below(5)] ^= 1 << r.below(8),
-        2 => file.resize(8190 + r.below(4), r.below(7) as u8),
+        2 => file.resize(8190 + r.below(4), r.below(8) as u8),
         _ => {}
     }
     file

@@ -6,7 +6,7 @@ use crate::linked::replay;
 use crate::random::{Random, STYLES};
 use crate::reader::{read, HEAD, LONGEST};
 use crate::reference::{checked, edited, stored_book, Book};
-use crate::tables::{Edit, Tables, BLOCKS, PAIRS, ROUTES, RUNS};
+use crate::tables::{Edit, Tables, BLOCKS, FIGURE, PAIRS, ROUTES, RUNS};
 use crate::{random_yard, same_answer, same_tables, scramble, spoil, Report};
 
 const ANSWERS: usize = 4096;
@@ -90,7 +90,12 @@ fn known(report: &mut Report) {
         Edit::AddRun(0, [0, 10, 27, 13]),
         Edit::AddBlock(1, vec![11, 1, 13, 1, 12, 5]),
     ]);
-    let rows: [(&str, Vec<u8>, u32, Vec<u32>, [u64; 2]); 5] = [
+    // number bytes 255 and 24, figures 500, 1,001 and 1,000
+    let figures = [document.clone(), vec![7, 255, 0xF4, 1, 7, 24, 0xE9, 3, 7, 3, 0xE8, 3]].concat();
+    let rows: [(&str, Vec<u8>, u32, Vec<u32>, [u64; 2]); 8] = [
+        ("the listed yard and three figures", figures.clone(), 0, vec![0, 0, 0, 0, 13, 0], [6, 61]),
+        ("the last figure cut off", figures[..60].to_vec(), 10, vec![0, 0, 0, 0, 13], [5, 57]),
+        ("kind 8 after figures", [figures, vec![8, 0, 0, 0]].concat(), 10, vec![0, 0, 0, 0, 13, 0], [6, 61]),
         ("the listed yard", document.clone(), 0, vec![0, 0, 0], [3, 49]),
         ("the listed yard and a byte", [document, vec![5]].concat(), 10, vec![0, 0, 0], [3, 49]),
         ("the header alone", HEAD.to_vec(), 0, vec![], [0, 5]),
@@ -102,7 +107,7 @@ fn known(report: &mut Report) {
             let lent = Lent::new(&mut Random::new(1), started(), ANSWERS, 2);
             let (right, due) = lent.due(&file);
             if right != number || due.answers[..answers.len()] != answers || due.end != end {
-                return Err(format!("the second planner says {right}, {:?}, {:?}", &due.answers[..4], due.end));
+                return Err(format!("the second planner says {right}, {:?}, {:?}", &due.answers[..answers.len()], due.end));
             }
             lent.call(&file, calls).map(drop)
         });
@@ -202,8 +207,25 @@ fn lengths(report: &mut Report) {
     }
 }
 
+/// A stored figure above 1,000 refuses every edit, the new figure too.
+fn over_wrong_figures(report: &mut Report) {
+    for figure in [1001, 65535] {
+        report.case(&format!("replay over a least charge of {figure}"), |calls| {
+            let (_, mut t) = random_yard(&mut Random::new(3), &STYLES[1], 30);
+            t.runs[FIGURE] = figure;
+            let file = file(&[Edit::SetCharge(0), Edit::RemoveBlock(0), Edit::SetCharge(1001), Edit::AddRun(24, [0; 4])]);
+            let lent = Lent::new(&mut Random::new(4), t, ANSWERS, 2);
+            if lent.due(&file).1.answers[..4] != [2; 4] {
+                return Err("the second planner takes an edit".to_string());
+            }
+            lent.call(&file, calls).map(drop)
+        });
+    }
+}
+
 pub fn replaying(report: &mut Report) {
     known(report);
+    over_wrong_figures(report);
     longest(report);
     over_right_tables(report);
     over_wrong_tables(report);

@@ -213,7 +213,7 @@ impl Plan {
     }
 }
 
-/// Edits that make a yard of a kind and go on over it, stretched.
+/// Edits that make a yard of a kind and go on over it, stretched; now and then a least charge.
 fn edits(r: &mut Random, kind: Kind) -> Vec<Edit> {
     let mut plan = Plan { kind, blocks: BTreeMap::new(), edits: vec![] };
     for _ in 0..kind.blocks {
@@ -226,7 +226,12 @@ fn edits(r: &mut Random, kind: Kind) -> Vec<Edit> {
         plan.edit(r);
     }
     let stretch = r.pick(&Stretch::all(kind.span));
-    plan.edits.iter().map(|e| stretch.edit(e)).collect()
+    let mut edits: Vec<Edit> = plan.edits.iter().map(|e| stretch.edit(e)).collect();
+    for _ in 0..r.below(3) {
+        let at = r.below(edits.len() + 1);
+        edits.insert(at, Edit::SetCharge(r.pick(&[0, 1, 3, 1000, 1001])));
+    }
+    edits
 }
 
 /// The number of a block that an edit is of.
@@ -362,14 +367,22 @@ fn spoiled_kinds(book: &Book, e: &Edit, before: &Tables, after: &Tables, seen: &
     let there: Vec<bool> = book.marks().iter().map(|mark| mark.is_some()).collect();
     let mut counts = [[[0; 5]; 2]; 3];
     for ((i, j, old), &new) in pairs(before).zip(&after.pairs) {
-        let own = edited_block(e).map_or(i >= 192 || j >= 192, |n| i / 8 == n || j / 8 == n);
+        let own = match (edited_block(e), e) {
+            (Some(n), _) => i / 8 == n || j / 8 == n,
+            (None, Edit::SetCharge(_)) => false,
+            (None, _) => i >= 192 || j >= 192,
+        };
         let is = [old == SEAM, old == CLEAR, old > 23].iter().position(|&is| is);
         let becomes = [new == old, new < 24, new == SEAM, new == CLEAR].iter().position(|&is| is).unwrap_or(4);
         if let (Some(is), false) = (is, own) {
             counts[is][(there[i] && there[j]) as usize][becomes] += 1;
         }
     }
-    let edit = if edited_block(e).is_some() { "block's" } else { "run's" };
+    let edit = match (edited_block(e), e) {
+        (Some(_), _) => "block's",
+        (None, Edit::SetCharge(_)) => "figure's",
+        (None, _) => "run's",
+    };
     for (is, old) in OLD.iter().enumerate() {
         for (there, marks) in ["absent", "present"].iter().enumerate() {
             for (becomes, new) in NEW.iter().enumerate() {
@@ -486,7 +499,7 @@ fn random_yards(p: &impl Planner, report: &mut Report) {
 }
 
 /// How often at least the random yards meet each case.
-const OFTEN: [(&str, usize); 47] = [
+const OFTEN: [(&str, usize); 50] = [
     ("seam between corners", 60_000),
     ("seam from a corner to an end", 25_000),
     ("seam between ends", 2_000),
@@ -534,6 +547,9 @@ const OFTEN: [(&str, usize); 47] = [
     ("254 of present marks, after a run's edit the same", 5_000),
     ("253 of absent marks, after a run's edit the same", 100_000),
     ("254 of absent marks, after a run's edit the same", 100_000),
+    ("253 of present marks, after a figure's edit the same", 4_500),
+    ("254 of present marks, after a figure's edit the same", 3_500),
+    ("other byte of present marks, after a figure's edit the same", 3_500),
 ];
 
 /// Two blocks on a grid of ten places each way, and how they lie to each other.
