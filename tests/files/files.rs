@@ -22,6 +22,8 @@ pub fn record(e: &Edit) -> Vec<u8> {
         Edit::AddRun(m, ends) => with(start(4, m), ends),
         Edit::RemoveRun(m) => start(5, m),
         Edit::MoveRun(m, ends) => with(start(6, m), ends),
+        // the number byte is ignored: any will do
+        Edit::SetCharge(figure) => with(vec![7, (figure % 251) as u8], &[*figure]),
     }
 }
 
@@ -48,7 +50,7 @@ pub fn random_bytes(r: &mut Random) -> Vec<u8> {
     let mut bytes = HEAD.to_vec();
     let length = r.pick(&[5, 6, 7, 20, 60, 200, 1000, 8190]) + r.below(4);
     while bytes.len() < length {
-        bytes.push(if r.percent(96) { 1 + r.below(6) as u8 } else { r.next() as u8 });
+        bytes.push(if r.percent(96) { 1 + r.below(7) as u8 } else { r.next() as u8 });
         bytes.push(r.below(26) as u8);
         if r.percent(40) {
             bytes.extend([3 + r.below(3) as u8, 10, 0, 10, 0, 20, 0, 10, 0, 20, 0, 20, 0]);

@@ -166,7 +166,15 @@ fn known() -> Vec<Case> {
         with("the header alone", HEAD.to_vec(), ""),
         with("nothing", vec![], "stop 9 at 0\n"),
         with("kind 0", head(&[0]), "stop 10 at 5\n"),
-        with("kind 7", head(&[2, 0, 7, 0]), "edit 1 answer 5\nstop 10 at 7\n"),
+        with("a figure", file(&[Edit::AddRun(0, [0, 0, 3, 4]), Edit::SetCharge(6)]), "edit 1 answer 0\nedit 2 answer 0\nrun 0 length 6 marks 192 193\n"),
+        with("figures of 1,000 and 1,001", file(&[Edit::AddRun(0, [0, 0, 3, 4]), Edit::SetCharge(1000), Edit::SetCharge(1001), Edit::AddRun(1, [5, 5, 5, 5])]),
+            "edit 1 answer 0\nedit 2 answer 0\nedit 3 answer 13\nedit 4 answer 0\nrun 0 length 1000 marks 192 193\nrun 1 length 0 marks 194 195\n"),
+        with("a figure that reroutes", file(&[Edit::AddBlock(0, vec![315, 332, 325, 332, 320, 740]), Edit::AddRun(0, [0, 500, 640, 500]), Edit::SetCharge(86)]),
+            "edit 1 answer 0\nedit 2 answer 0\nedit 3 answer 0\nrun 0 length 800 marks 192 2 193\n"),
+        with("a figure under number 255", head(&[7, 255, 0xE8, 3, 2, 0]), "edit 1 answer 0\nedit 2 answer 5\n"),
+        with("a figure cut off", head(&[2, 0, 7, 0]), "edit 1 answer 5\nstop 10 at 7\n"),
+        with("a figure cut in half", head(&[2, 0, 7, 0, 9]), "edit 1 answer 5\nstop 10 at 7\n"),
+        with("kind 8", head(&[2, 0, 8, 0, 9, 0]), "edit 1 answer 5\nstop 10 at 7\n"),
         with("count 0", head(&[1, 0, 0]), "edit 1 answer 6\n"),
         with("count 2", head(&[1, 0, 2, 0, 0, 0, 0, 9, 0, 9, 0]), "edit 1 answer 6\n"),
         with("earlier edits stand", [file(&document), vec![5]].concat(), "edit 1 answer 0\nedit 2 answer 0\nedit 3 answer 0\nstop 10 at 49\nrun 0 length 30 marks 192 10 193\n"),
@@ -231,6 +239,15 @@ fn records() -> Vec<Case> {
         for length in 0..12 {
             let body: Vec<u8> = [kind, 1].into_iter().chain([3, 0, 50, 0, 60, 0, 50, 0, 60, 0]).take(length).collect();
             cases.push(case(format!("kind {kind}, {length} bytes left"), [&before[..], &body].concat()));
+        }
+    }
+    // the number byte of a figure is ignored, and a figure that is too large does not stop the file
+    for number in 0..=255u8 {
+        let figure = [0u16, 1, 13, 255, 256, 500, 999, 1000, 1001, 1002, 1256, 32768, 65535][number as usize % 13];
+        let [low, high] = figure.to_le_bytes();
+        let whole = [&before[..], &[7, number, low, high, 3, 0, 5, 0, 5, 0]].concat();
+        for length in if number % 23 == 1 { before.len()..whole.len() } else { whole.len()..whole.len() + 1 } {
+            cases.push(case(format!("figure {figure} under number {number}, {length} bytes"), whole[..length].to_vec()));
         }
     }
     for count in (0..=18usize).chain([63, 64, 127, 128, 254, 255]) {

@@ -26,7 +26,7 @@ pub fn read(file: &[u8]) -> (Vec<Edit>, Option<Stop>) {
     (edits, None)
 }
 
-/// The record that some bytes start with and its size, if its kind is 1 to 6 and it is whole.
+/// The record that some bytes start with and its size, if its kind is 1 to 7 and it is whole.
 fn record(bytes: &[u8]) -> Option<(Edit, usize)> {
     let kind = *bytes.first()?;
     let number = *bytes.get(1)? as u32;
@@ -44,6 +44,7 @@ fn record(bytes: &[u8]) -> Option<(Edit, usize)> {
         4 => four().map(|ends| (Edit::AddRun(number, ends), 10)),
         5 => Some((Edit::RemoveRun(number), 2)),
         6 => four().map(|ends| (Edit::MoveRun(number, ends), 10)),
+        7 => fields(2, 1).map(|f| (Edit::SetCharge(f[0]), 4)),
         _ => None,
     }
 }
