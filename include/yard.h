@@ -5,7 +5,7 @@
  *
  * The caller owns four tables, best in a struct yard, and lends them to every call but yard_read, each as a pointer and
  * a length in elements; a quote is lent blocks and runs alone. The lengths must be exactly those below. Together the
- * tables take 48,648 bytes. No table or list that a call is lent may overlap another, be it corners, a file, an item,
+ * tables take 48,650 bytes. No table or list that a call is lent may overlap another, be it corners, a file, an item,
  * answers, an end, a quote, a kind or points. Every pointer must be valid for its length and aligned for its element
  * type; NULL is allowed with length 0 alone, and is then an empty list.
  *
@@ -35,8 +35,13 @@ extern "C" {
  */
 #define YARD_BLOCKS_LEN 408
 
-/* runs: 24 records of 5 words. Word 0 is 1, or 0 if absent; then the first end and the second end, east then north. */
-#define YARD_RUNS_LEN 120
+/*
+ * runs: 24 records of 5 words, then one word. Word 0 of a record is 1, or 0 if absent; then the first end and the
+ * second end, east then north. The word after the records is the least charge of a straight, from 0 to 1,000: a
+ * straight is charged its length, rounded up to a whole centimetre, or the least charge where that is more; one of
+ * length 0 is free.
+ */
+#define YARD_RUNS_LEN 121
 
 /*
  * pairs: one byte for each two marks. Corner k of block n is mark 8 * n + k; the ends of run m are marks 192 + 2 * m
@@ -51,7 +56,9 @@ extern "C" {
 
 /*
  * routes: 24 records of 197 words. Word 0 is the state (YARD_ROUTE_..), word 1 the length, word 2 the count of marks,
- * then the marks from the first end to the second; unused words are 0.
+ * then the marks from the first end to the second; unused words are 0. The length is the sum of what the straights are
+ * charged. A route is the chain of clear straights of least length, then of the fewest straights, then of the lowest
+ * marks.
  */
 #define YARD_ROUTES_LEN 4728
 
@@ -72,6 +79,7 @@ struct yard {
 
 #define YARD_BLOCK_WORDS 17
 #define YARD_RUN_WORDS 5
+#define YARD_CHARGE_AT 120 /* of runs: the least charge */
 #define YARD_ROUTE_WORDS 197
 
 #define YARD_ROUTE_ABSENT 0
@@ -81,7 +89,7 @@ struct yard {
 /* Answers. The questions are asked in this order, and the first that fails is the answer. */
 #define YARD_DONE 0             /* done; of yard_check: pairs and routes are right */
 #define YARD_WRONG_LENGTH 1     /* a table or list is not as long as stated */
-#define YARD_WRONG_RECORD 2     /* a stored block or run is not one that these calls write */
+#define YARD_WRONG_RECORD 2     /* a stored block, run or least charge is not one that these calls write */
 #define YARD_WRONG_NUMBER 3     /* the number is not below 24 */
 #define YARD_NOT_FREE 4         /* adding: the number is taken */
 #define YARD_NOT_TAKEN 5        /* removing, moving, quoting or drawing: the number is free */
@@ -92,8 +100,9 @@ struct yard {
 #define YARD_NOT_A_RECORD 10    /* yard_read, yard_replay: outside the file, the kind unknown or the record cut off */
 #define YARD_NOT_DRAWN 11       /* checking or drawing: a byte of pairs or routes is not what blocks and runs require */
 #define YARD_TOO_MANY_BLOCKS 12 /* yard_quote_duct: more than 8 blocks stand */
+#define YARD_WRONG_CHARGE 13    /* yard_set_charge: the least charge is above 1,000 */
 
-/* An empty yard, whatever the tables held. Answers 0 or 1. */
+/* An empty yard with least charge 0, whatever the tables held. Answers 0 or 1. */
 uint32_t yard_start(uint16_t *blocks, size_t blocks_len, uint16_t *runs, size_t runs_len, uint8_t *pairs,
                     size_t pairs_len, uint32_t *routes, size_t routes_len);
 
@@ -124,6 +133,13 @@ uint32_t yard_remove_run(uint16_t *blocks, size_t blocks_len, uint16_t *runs, si
 uint32_t yard_move_run(uint16_t *blocks, size_t blocks_len, uint16_t *runs, size_t runs_len, uint8_t *pairs,
                        size_t pairs_len, uint32_t *routes, size_t routes_len, uint32_t number, uint16_t first_east,
                        uint16_t first_north, uint16_t second_east, uint16_t second_north);
+
+/*
+ * Set the least charge of a straight, from 0 to 1,000. Every route is made anew by pairs as they stand, right or wrong;
+ * pairs are kept. Answers 0 to 2 and 13.
+ */
+uint32_t yard_set_charge(uint16_t *blocks, size_t blocks_len, uint16_t *runs, size_t runs_len, uint8_t *pairs,
+                         size_t pairs_len, uint32_t *routes, size_t routes_len, uint16_t figure);
 
 /* Are pairs and routes what blocks and runs require? Changes nothing. Answers 0, 1, 2 or 11. */
 uint32_t yard_check(const uint16_t *blocks, size_t blocks_len, const uint16_t *runs, size_t runs_len,
@@ -165,8 +181,8 @@ uint32_t yard_bend(const uint16_t *blocks, size_t blocks_len, const uint16_t *ru
 /*
  * The route of a run from blocks and runs alone, where there is no memory for pairs: whether a straight is clear is
  * tested only where the best route so far goes. route has exactly YARD_ROUTE_WORDS words, and is filled with the
- * record that blocks and runs require: what right tables hold for the run in routes. Blocks and runs are only read.
- * Answers 0 to 3 and 5.
+ * record that blocks and runs require, the least charge in runs too: what right tables hold for the run in routes.
+ * Blocks and runs are only read. Answers 0 to 3 and 5.
  */
 uint32_t yard_quote_route(const uint16_t *blocks, size_t blocks_len, const uint16_t *runs, size_t runs_len,
                           uint32_t run, uint32_t *route, size_t route_len);
@@ -174,9 +190,9 @@ uint32_t yard_quote_route(const uint16_t *blocks, size_t blocks_len, const uint1
 /*
  * The duct of a run: a way that is laid only east-west and north-south, along the lines through every corner of a
  * standing block and through the run's two ends. It goes from crossing to neighbouring crossing of these lines by
- * straights that are clear. Its cost is its length and 25 for each change of direction; the least cost is taken, then
- * the fewest changes, then the first list of crossings, compared east before north. Ends in one place are a duct of
- * that one crossing, cost 0, where the place is clear.
+ * straights that are clear. Its cost is its plain length, whatever the least charge, and 25 for each change of
+ * direction; the least cost is taken, then the fewest changes, then the first list of crossings, compared east before
+ * north. Ends in one place are a duct of that one crossing, cost 0, where the place is clear.
  *
  * quote has exactly YARD_DUCT_QUOTE_LEN words: the state (YARD_ROUTE_FOUND or YARD_ROUTE_NO_WAY), the cost and the
  * count of crossings, both 0 where there is no way. crossings has exactly YARD_DUCT_CROSSINGS_LEN words: east and
@@ -193,7 +209,8 @@ uint32_t yard_quote_duct(const uint16_t *blocks, size_t blocks_len, const uint16
 /*
  * A yard file is the letters YRD, a 16-bit version (1), low byte first, then records from position 5 on: a kind byte, a
  * number byte, and fields of 16 bits, low byte first. Kinds: 1 add block (a count byte c, then c corners), 2 remove
- * block, 3 move block (two displacements, two's complement), 4 add run and 6 move run (four coordinates), 5 remove run.
+ * block, 3 move block (two displacements, two's complement), 4 add run and 6 move run (four coordinates), 5 remove run,
+ * 7 set the least charge (one field; the number byte is ignored, and may be any).
  *
  * yard_read looks at the record at a position. item has room for exactly YARD_ITEM_LEN words; answer 0 fills it with
  * the record's kind, its number, the position of its fields (of kind 1: of the count byte) and the position of the next
