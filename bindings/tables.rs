@@ -25,6 +25,11 @@ impl Tables {
         self.pairs[pair_index(i, j)]
     }
 
+    /// The least charge of a straight.
+    pub fn figure(&self) -> u16 {
+        self.runs[FIGURE]
+    }
+
     /// State, summed charges and marks of run m's route.
     pub fn route(&self, m: usize) -> (u32, u32, &[u32]) {
         let words = &self.routes[197 * m..197 * m + 197];

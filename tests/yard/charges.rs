@@ -352,11 +352,11 @@ fn refusals(p: &impl Planner, report: &mut Report) {
     report.case("every figure from 0 to 65,535", |calls| {
         let mut t = started(p)?;
         for figure in 0..=65535u16 {
-            let kept = t.runs[FIGURE];
+            let kept = t.figure();
             *calls += 1;
             same_answer(&format!("figure {figure}"), p.edit(&mut t, &Edit::SetCharge(figure)), if figure > 1000 { 13 } else { 0 })?;
-            if t.runs[FIGURE] != figure.min(if figure > 1000 { kept } else { figure }) {
-                return Err(format!("figure {figure} leaves {}", t.runs[FIGURE]));
+            if t.figure() != if figure > 1000 { kept } else { figure } {
+                return Err(format!("figure {figure} leaves {}", t.figure()));
             }
         }
         same_tables("all figures", &t, &Book { figure: 1000, ..Book::new() }.drawing())

@@ -1,6 +1,6 @@
 //! The rows of docs/RULES.md: "Trial yards", the listed yard, and "Shortcuts that cost a trench".
 
-use crate::tables::{Edit, Planner, Tables, FIGURE};
+use crate::tables::{Edit, Planner, Tables};
 use crate::{same_answer, started, Report};
 
 const S: [u16; 8] = [10, 10, 20, 10, 20, 20, 10, 20];
@@ -136,7 +136,7 @@ pub fn trial_yards(p: &impl Planner, report: &mut Report) {
     for figure in [0, 1, 999, 1000] {
         report.case(&format!("a least charge of {figure} is taken"), |calls| {
             let t = yard(p, &[square(0), run([0, 10, 30, 10]), Edit::SetCharge(figure)], calls)?;
-            same(t.runs[FIGURE], figure)?;
+            same(t.figure(), figure)?;
             same(t.route(0), (1, u32::from(figure.max(30)), &[192, 193][..]))
         });
     }
