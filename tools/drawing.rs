@@ -189,6 +189,9 @@ pub fn head(svg: &mut Svg, frame: &Frame, name: &str, yard: &Yard, note: Option<
     if yard.refused > 0 {
         write!(line, ", {} refused", yard.refused).unwrap();
     }
+    if yard.figure > 0 {
+        write!(line, "; least charge {} cm", yard.figure).unwrap();
+    }
     svg.text((MARGIN, MARGIN + 10.0), "note", "start", &line);
     for (k, note) in note.into_iter().chain(stop_note(yard)).enumerate() {
         svg.text((MARGIN, MARGIN + 14.0 + 4.0 * k as f64), if note.amiss { "note lost" } else { "note" }, "start", &note.text);
@@ -243,10 +246,16 @@ impl Key {
     }
 }
 
-fn key(svg: &mut Svg, frame: &Frame) {
+/// What a route is beside all others: without a least charge its price is its length.
+pub fn best(yard: &Yard) -> &'static str {
+    if yard.figure > 0 { "cheapest" } else { "shortest" }
+}
+
+fn key(svg: &mut Svg, frame: &Frame, yard: &Yard) {
     let key = Key::new(frame);
     key.block(svg, 0.0);
-    for (k, lost, text) in [(1.0, "", "run: its shortest route, numbered at both ends"), (2.0, " lost", "run with no way")] {
+    let run = format!("run: its {} route, numbered at both ends", best(yard));
+    for (k, lost, text) in [(1.0, "", &run[..]), (2.0, " lost", "run with no way")] {
         svg.path(&format!("route{lost}"), &key.sign(k), false);
         key.sign(k).iter().for_each(|&end| svg.circle(&format!("end{lost}"), end));
         key.text(svg, k, text);
@@ -377,7 +386,7 @@ pub fn svg(name: &str, yard: &Yard) -> String {
         set(&mut svg, b, &class("label", run.length.is_none()), text);
     }
     scale_bar(&mut svg, &frame);
-    key(&mut svg, &frame);
+    key(&mut svg, &frame, yard);
     svg.line(format_args!("</svg>"));
     svg.0
 }

@@ -1,6 +1,6 @@
 //! The page of one run's duct: the lines that it may be laid along, the duct with its turns and its cost.
 
-use crate::drawing::{head, outlines, placed, scale_bar, set, set_numbers, sheet, Frame, Key, Note, Svg};
+use crate::drawing::{best, head, outlines, placed, scale_bar, set, set_numbers, sheet, Frame, Key, Note, Svg};
 use crate::plane::Point;
 use crate::yards::{Duct, Place, Way};
 use crate::{Run, Yard};
@@ -90,7 +90,7 @@ fn draw_no_way(svg: &mut Svg, ends: &[Point]) {
     draw_ends(svg, ends);
 }
 
-fn key(svg: &mut Svg, frame: &Frame) {
+fn key(svg: &mut Svg, frame: &Frame, yard: &Yard) {
     let key = Key::new(frame);
     key.block(svg, -1.0);
     let [from, to] = key.sign(0.0);
@@ -101,7 +101,7 @@ fn key(svg: &mut Svg, frame: &Frame) {
     svg.circle("tip", to);
     key.text(svg, 0.0, "duct with its turns: its length and 25 for each turn");
     svg.path("beside", &key.sign(1.0), false);
-    key.text(svg, 1.0, "the run's shortest route, for comparison");
+    key.text(svg, 1.0, &format!("the run's {} route, for comparison", best(yard)));
     svg.path("grid", &key.sign(2.0), false);
     key.text(svg, 2.0, "line through a block's corner or an end of the run");
 }
@@ -142,7 +142,7 @@ pub fn svg(name: &str, yard: &Yard, run: u32, duct: &Duct) -> String {
     let class = if matches!(duct, Duct::Found(_)) { "label cost" } else { "label lost" };
     placed.labels.iter().zip(&texts).filter(|(_, text)| !text.is_empty()).for_each(|(b, text)| set(&mut svg, b, class, text));
     scale_bar(&mut svg, &frame);
-    key(&mut svg, &frame);
+    key(&mut svg, &frame, yard);
     svg.line(format_args!("</svg>"));
     svg.0
 }

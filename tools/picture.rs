@@ -18,6 +18,8 @@ use yards::{Place, Replayed, Stop};
 pub struct Yard {
     pub blocks: Vec<(usize, Vec<Place>)>,
     pub runs: Vec<Run>,
+    /// The least charge of a straight.
+    pub figure: u16,
     pub edits: usize,
     pub refused: usize,
     pub stop: Option<Stop>,
@@ -26,7 +28,7 @@ pub struct Yard {
 pub struct Run {
     pub number: usize,
     pub ends: [Place; 2],
-    /// The line that its route is drawn as and the route's length; the straight between its ends if there is no way.
+    /// The line that its route is drawn as and what the route is charged; the straight between its ends if there is no way.
     pub line: Vec<Spot>,
     pub length: Option<u32>,
 }
@@ -47,7 +49,7 @@ fn drawn(yard: &Replayed) -> Yard {
         }
     };
     let runs = (0..24).filter(|&m| t.route(m).0 != 0).map(run).collect();
-    Yard { blocks, runs, edits: yard.edits, refused: yard.refused, stop: yard.stop }
+    Yard { blocks, runs, figure: t.figure(), edits: yard.edits, refused: yard.refused, stop: yard.stop }
 }
 
 /// The picture of a file, with the duct of one run if that is wanted.

@@ -169,9 +169,14 @@ fn said(file: &[u8], all: &[Element], duct: Option<u32>) -> Result<(), String> {
     let blocks = book.blocks.iter().filter(|b| !b.is_empty()).count();
     let lost = if lost > 0 { format!(" ({lost} with no way)") } else { String::new() };
     let refused = if refused > 0 { format!(", {refused} refused") } else { String::new() };
-    let note = format!("{}, {}{lost}; {}{refused}", counted(blocks, "block"), counted(runs.len(), "run"), counted(edits.len(), "edit"));
-    if !texts(all, "note").any(|t| t == note) {
-        return Err(format!("no text '{note}'"));
+    let charge = if book.figure > 0 { format!("; least charge {} cm", book.figure) } else { String::new() };
+    let note = format!("{}, {}{lost}; {}{refused}{charge}", counted(blocks, "block"), counted(runs.len(), "run"), counted(edits.len(), "edit"));
+    let best = if book.figure > 0 { "cheapest" } else { "shortest" };
+    let key = duct.map_or(format!("run: its {best} route, numbered at both ends"), |_| format!("the run's {best} route, for comparison"));
+    for due in [note, key] {
+        if !texts(all, "note").any(|t| t == due) {
+            return Err(format!("no text '{due}'"));
+        }
     }
     if let Some(stop) = stop {
         let start = format!("stop {} at {}:", stop.number, stop.at);
