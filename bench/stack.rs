@@ -22,6 +22,7 @@ enum Call {
     AddRun([u16; 4]),
     RemoveRun,
     MoveRun([u16; 4]),
+    SetCharge(u16),
     Check,
     Piece(u32, u32, [f64; pieces::POINTS]),
     Bend(u32, u32, [f64; pieces::NINE_POINTS]),
@@ -31,7 +32,7 @@ enum Call {
 }
 
 const NUMBER: u32 = 8;
-const TABLES: usize = 48_648;
+const TABLES: usize = 48_650;
 /// Of the tables and the stack of the calls that a panel makes.
 const PANEL: usize = 65_536;
 
@@ -50,6 +51,7 @@ extern "C" fn perform(job: *mut Job) {
             Call::AddRun(e) => yard_add_run(b, bl, r, rl, p, pl, w, wl, NUMBER, e[0], e[1], e[2], e[3]),
             Call::RemoveRun => yard_remove_run(b, bl, r, rl, p, pl, w, wl, NUMBER),
             Call::MoveRun(e) => yard_move_run(b, bl, r, rl, p, pl, w, wl, NUMBER, e[0], e[1], e[2], e[3]),
+            Call::SetCharge(figure) => yard_set_charge(b, bl, r, rl, p, pl, w, wl, *figure),
             Call::Check => yard_check(b, bl, r, rl, p, pl, w, wl),
             Call::Piece(run, piece, q) => yard_piece(b, bl, r, rl, p, pl, w, wl, *run, *piece, &mut 0, 1, q.as_mut_ptr(), q.len()),
             Call::Bend(run, piece, q) => yard_bend(b, bl, r, rl, p, pl, w, wl, *run, *piece, &mut 0, 1, q.as_mut_ptr(), q.len()),
@@ -118,12 +120,13 @@ fn every_kind(yard: &Grid) -> Vec<u8> {
         block(&yard.corners(NUMBER as usize)),
         record(5, &[]),
         record(4, &ends),
+        record(7, &[500]),
     ];
     [b"YRD\x01\x00".to_vec(), edits.concat()].concat()
 }
 
 /// How many of the calls below a panel makes.
-const PANELS: usize = 10;
+const PANELS: usize = 11;
 
 /// What each call that edits, checks or draws is tried with, over a yard; the route's quote and the replay, which no panel
 /// makes, last.
@@ -136,11 +139,15 @@ fn calls(yard: &Grid) -> [(&'static str, Vec<(Tables, Call)>); PANELS + 2] {
     perform(&mut Job { t: &mut without, call: Call::RemoveRun });
     let move_blocks = displacements(3).into_iter().map(|d| (full.clone(), Call::MoveBlock(d.0, d.1))).collect();
     let move_runs = [[0, 0, 32767, 32767], [7, 9, 7, 9]].map(|ends| (full.clone(), Call::MoveRun(ends))).to_vec();
+    let set_charges = [0, 500, 1000].map(|figure| (full.clone(), Call::SetCharge(figure))).to_vec();
     // a straight, a bend, the last piece of a short route, and none
     let numbers = || (0..24).flat_map(|run| [0, 1, 2, u32::MAX].map(|piece| (run, piece)));
     let pieces = numbers().map(|(run, piece)| (full.clone(), Call::Piece(run, piece, [0.0; pieces::POINTS]))).collect();
     let bends = numbers().map(|(run, piece)| (full.clone(), Call::Bend(run, piece, [0.0; pieces::NINE_POINTS]))).collect();
-    let quotes = (0..24).map(|run| (full.clone(), Call::QuoteRoute(run, [0; quotes::ROUTE]))).collect();
+    let mut charged = full.clone();
+    assert_eq!(charged.yard().set_charge(500), 0);
+    let quote = |run: u32| [&full, &charged].map(|t| (t.clone(), Call::QuoteRoute(run, [0; quotes::ROUTE])));
+    let quotes = (0..24).flat_map(quote).collect();
     let replay = Call::Replay(every_kind(yard), vec![0; 4096], [0; 2]);
     [
         ("yard_start", vec![(full.clone(), Call::Start)]),
@@ -150,6 +157,7 @@ fn calls(yard: &Grid) -> [(&'static str, Vec<(Tables, Call)>); PANELS + 2] {
         ("yard_add_run", vec![(without, Call::AddRun(Grid::ends(NUMBER as u16)))]),
         ("yard_remove_run", vec![(full.clone(), Call::RemoveRun)]),
         ("yard_move_run", move_runs),
+        ("yard_set_charge", set_charges),
         ("yard_check", vec![(full.clone(), Call::Check)]),
         ("yard_piece", pieces),
         ("yard_bend", bends),
