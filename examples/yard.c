@@ -31,6 +31,13 @@ static void edit_by_calls(void) {
     answer("add run 0", yard_add_run(YARD_TABLES(&yard), 0, 0, 15, 30, 15));
     print_route(0);
 
+    /* Fitters charge each straight as at least so many centimetres. */
+    answer("set the least charge to 15", yard_set_charge(YARD_TABLES(&yard), 15));
+    print_route(0);
+    answer("set the least charge to 1001", yard_set_charge(YARD_TABLES(&yard), 1001));
+    printf("the least charge is %u\n", yard.runs[YARD_CHARGE_AT]);
+    answer("set the least charge to 0", yard_set_charge(YARD_TABLES(&yard), 0));
+
     answer("move block 0 north by 3", yard_move_block(YARD_TABLES(&yard), 0, 0, 3));
     print_route(0);
 
