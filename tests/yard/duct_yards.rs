@@ -173,7 +173,7 @@ pub fn cut_box(r: &mut Random, span: i64, size: i64) -> Vec<Place> {
 
 pub fn shown(book: &Book, run: usize) -> String {
     let blocks: Vec<String> = book.blocks.iter().enumerate().filter(|(_, b)| !b.is_empty()).map(|(n, b)| format!("  block {n} {b:?}")).collect();
-    format!("run {run} from {:?} to {:?}, blocks\n{}", book.runs[run][0], book.runs[run][1], blocks.join("\n"))
+    format!("run {run} from {:?} to {:?}, least charge {}, blocks\n{}", book.runs[run][0], book.runs[run][1], book.figure, blocks.join("\n"))
 }
 
 pub fn seeded(k: usize) -> Random {
