@@ -187,15 +187,19 @@ fn root_up(x: u32) -> u32 {
     }
 }
 
-/// What a straight is charged, by its squares. A root is asked for only where it is longer than the figure.
-fn charge(square: u32, figure: u32) -> u32 {
-    if square == 0 {
+/// What a straight is charged, by its squares.
+fn charge(figure: u32, square: u32) -> u32 {
+    let length = root_up(square);
+    if length == 0 {
         0
-    } else if square <= figure * figure {
-        figure
     } else {
-        root_up(square)
+        length.max(figure)
     }
+}
+
+/// Whether that is more than a number, without a root.
+fn dearer(figure: u32, square: u32, most: u32) -> bool {
+    square != 0 && (most < figure || square as u64 > most as u64 * most as u64)
 }
 
 fn pair_index(i: usize, j: usize) -> usize {
@@ -584,17 +588,17 @@ impl Yard<'_> {
         picked
     }
 
-    /// The key of v, so far old, once s is settled. A root is asked for only where the squares show an improvement.
+    /// The key of v, so far old, once s is settled. A root is asked for only where figure and squares show an improvement.
     fn improved(&self, v: usize, s: usize, from: Place, key: u32, old: u32) -> u32 {
         if old < key + 2 || !self.clear(v, s) {
             return old;
         }
         let most = (old - key - 2) / 256;
         let square = squares(place(self.blocks, self.runs, v), from);
-        if square as u64 > most as u64 * most as u64 || (square > 0 && self.figure() > most) {
+        if dearer(self.figure(), square, most) {
             return old;
         }
-        key + 256 * charge(square, self.figure()) + 1
+        key + 256 * charge(self.figure(), square) + 1
     }
 
     /// Forwards from the first end, always to the lowest mark on a best chain.
@@ -623,8 +627,8 @@ impl Yard<'_> {
         if gap % 256 != 1 || !self.clear(v, u) {
             return false;
         }
-        let most = gap / 256;
+        let cost = gap / 256;
         let square = self.squares_of(v, u);
-        square as u64 <= most as u64 * most as u64 && charge(square, self.figure()) == most
+        !dearer(self.figure(), square, cost) && charge(self.figure(), square) == cost
     }
 }
