@@ -244,7 +244,7 @@ fn show(v: Option<f64>, digits: usize) -> String {
 fn print_table(counts: &Counts) {
     println!("One drag step with 24 runs. Time: ours in microseconds, the others as multiples of ours in the same run (least of {ROUNDS} drags of {STEPS}");
     println!("steps, Graphviz {GRAPHVIZ_ROUNDS} of {GRAPHVIZ_STEPS}). Instructions: thousands, by callgrind inside the call. Plain: the same algorithm in safe Rust.");
-    println!("Redraw: the plain one drawing all pairs and routes from nothing. Graphviz: Pobsopen and a Pobspath for each run, disjoint blocks only.");
+    println!("Redraw: the plain one drawing all pairs and routes from nothing. Graphviz: Pobsopen and a Pobspath for each run, disjoint blocks and plain lengths only.");
     println!();
     println!("{:<13} {:>6} |{:^34}|{:^54}", "", "", "time", "instructions");
     println!(

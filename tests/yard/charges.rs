@@ -163,7 +163,8 @@ impl Seen {
 
     fn often_enough(&self, report: &mut Report, rows: &[(&'static str, usize)]) {
         report.case("charges of every kind often enough", |_| {
-            let few: Vec<String> = rows.iter().map(|row| (row.0, self.0.get(row.0).copied().unwrap_or(0), row.1)).filter(|row| row.1 < row.2).map(|row| format!("only {} of '{}'", row.1, row.0)).collect();
+            let count = |what: &str| self.0.get(what).copied().unwrap_or(0);
+            let few: Vec<String> = rows.iter().filter(|row| count(row.0) < row.1).map(|row| format!("only {} of '{}'", count(row.0), row.0)).collect();
             if few.is_empty() { Ok(()) } else { Err(few.join(", ")) }
         });
     }
@@ -198,7 +199,7 @@ fn not_drawn(_: &mut Random, _: &Tables, _: usize, _: &mut usize) -> Result<(), 
 
 /// The figure alone made another, pairs and routes left: the check, the calls that draw, and the edit that draws it right.
 fn other_figure(p: &impl Planner, r: &mut Random, book: &Book, t: &Tables, seen: &mut Seen, calls: &mut usize) -> Result<(), String> {
-    let mut other = Book { figure: some_figure(r, book), ..book.clone() };
+    let other = Book { figure: some_figure(r, book), ..book.clone() };
     let mut changed = t.clone();
     changed.runs[FIGURE] = other.figure;
     let right = other.drawing();
@@ -210,8 +211,7 @@ fn other_figure(p: &impl Planner, r: &mut Random, book: &Book, t: &Tables, seen:
         not_drawn(r, &changed, run, calls)?;
     }
     set(p, &mut changed, other.figure, &right, calls)?;
-    other.figure = book.figure;
-    set(p, &mut changed, other.figure, t, calls)
+    set(p, &mut changed, book.figure, t, calls)
 }
 
 /// An edit of any kind over right tables.
@@ -243,7 +243,7 @@ fn yard(p: &impl Planner, r: &mut Random, s: &Style, seen: &mut Seen, calls: &mu
     }
     // back to none: every byte as before
     set(p, &mut t, 0, &by_lengths, calls)?;
-    book.figure = some_figure(r, &Book { figure: 0, ..book.clone() });
+    book.figure = some_figure(r, &book);
     set(p, &mut t, book.figure, &book.drawing(), calls)?;
     for _ in 0..4 {
         let e = random::edit(r, s, &book);

@@ -282,7 +282,7 @@ fn examples(report: &mut Report) {
             });
         }
     }
-    report.case("example yards", |_| if count >= 5 { Ok(()) } else { Err(format!("only {count}")) });
+    report.case("example yards", |_| if count >= 6 { Ok(()) } else { Err(format!("only {count}")) });
 }
 
 fn after(edits: &[Edit]) -> Book {
