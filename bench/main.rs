@@ -39,6 +39,8 @@ pub struct Grid {
     blocks: usize,
     columns: usize,
     distance: u16,
+    /// All measures are divided by it.
+    part: i32,
     dragged: u32,
     runs: u16,
     /// The least charge of a straight.
@@ -46,9 +48,12 @@ pub struct Grid {
     sum: Option<u32>,
 }
 
-const FULL: Grid = Grid { word: "drag", name: "drag yard", shape: &OCTAGON, blocks: 24, columns: 6, distance: 4000, dragged: 8, runs: 24, figure: 0, sum: Some(692_923) };
+const FULL: Grid = Grid { word: "drag", name: "drag yard", shape: &OCTAGON, blocks: 24, columns: 6, distance: 4000, part: 1, dragged: 8, runs: 24, figure: 0, sum: Some(692_923) };
 /// The drag yard under a least charge, which no straight of its routes is shorter than: the lengths are the same.
 const CHARGED: Grid = Grid { word: "drag-500", name: "drag, 500 cm", figure: 500, ..FULL };
+/// The drag yard a tenth as large, in which most straights are shorter than the least charge, and without it.
+const TENTH: Grid = Grid { word: "tenth", name: "a tenth", part: 10, sum: None, ..FULL };
+const TENTH_CHARGED: Grid = Grid { word: "tenth-500", name: "tenth, 500 cm", figure: 500, ..TENTH };
 /// The blocks overlap.
 pub const CROWDED: Grid = Grid { word: "crowded", name: "crowded yard", distance: 2300, sum: Some(707_415), ..FULL };
 /// Squares side by side, 4 x 6: every side within is a seam.
@@ -60,7 +65,7 @@ const GRIDS: [Grid; 4] = [
     // five columns: the drag yard has six
     Grid { word: "24", name: "grid", columns: 5, distance: 4000, dragged: 11, sum: None, ..FULL },
 ];
-const YARDS: [Grid; 8] = [GRIDS[0], GRIDS[1], GRIDS[2], GRIDS[3], FULL, CHARGED, CROWDED, TOUCHING];
+const YARDS: [Grid; 10] = [GRIDS[0], GRIDS[1], GRIDS[2], GRIDS[3], FULL, CHARGED, TENTH, TENTH_CHARGED, CROWDED, TOUCHING];
 /// How many runs the yards of the second table have.
 const RUN_COUNTS: [u16; 4] = [1, 8, 16, 24];
 
@@ -71,11 +76,11 @@ const SQUARE: [(i32, i32); 4] = [(1500, -1500), (1500, 1500), (-1500, 1500), (-1
 impl Grid {
     pub fn corners(&self, n: usize) -> Vec<u16> {
         let centre = (4000 + self.distance as i32 * (n % self.columns) as i32, 6000 + self.distance as i32 * (n / self.columns) as i32);
-        self.shape.iter().flat_map(|c| [(centre.0 + c.0) as u16, (centre.1 + c.1) as u16]).collect()
+        self.shape.iter().flat_map(|c| [centre.0 + c.0, centre.1 + c.1]).map(|v| (v / self.part) as u16).collect()
     }
 
-    pub fn ends(m: u16) -> [u16; 4] {
-        [500 + 10 * m, 3000 + 700 * m, 28000 - 10 * m, 3000 + 700 * ((7 * m + 5) % 24)]
+    pub fn ends(&self, m: u16) -> [u16; 4] {
+        [500 + 10 * m, 3000 + 700 * m, 28000 - 10 * m, 3000 + 700 * ((7 * m + 5) % 24)].map(|v| v / self.part as u16)
     }
 
     /// The yard before the drag.
@@ -87,7 +92,7 @@ impl Grid {
             assert_eq!(yard.add_block(n as u32, &self.corners(n)), 0);
         }
         for m in 0..self.runs {
-            assert_eq!(yard.add_run(m as u32, Grid::ends(m)), 0);
+            assert_eq!(yard.add_run(m as u32, self.ends(m)), 0);
         }
         assert_eq!(yard.set_charge(self.figure), 0);
         t
@@ -97,20 +102,20 @@ impl Grid {
     fn for_graphviz(&self) -> bool {
         self.distance >= 3000 + 450 && self.figure == 0
     }
-}
 
-/// The displacements of a drag of so many steps: step i, from 0, goes to ((37 i) mod 900 - 450, (53 i) mod 900 - 450)
-/// from the centre.
-pub fn displacements(steps: i32) -> Vec<(i16, i16)> {
-    let mut at = (0, 0);
-    (0..steps)
-        .map(|i| {
-            let to = (37 * i % 900 - 450, 53 * i % 900 - 450);
-            let by = ((to.0 - at.0) as i16, (to.1 - at.1) as i16);
-            at = to;
-            by
-        })
-        .collect()
+    /// The displacements of a drag of so many steps: step i, from 0, goes to ((37 i) mod 900 - 450, (53 i) mod 900 - 450)
+    /// from the centre.
+    pub fn displacements(&self, steps: i32) -> Vec<(i16, i16)> {
+        let mut at = (0, 0);
+        (0..steps)
+            .map(|i| {
+                let to = ((37 * i % 900 - 450) / self.part, (53 * i % 900 - 450) / self.part);
+                let by = ((to.0 - at.0) as i16, (to.1 - at.1) as i16);
+                at = to;
+                by
+            })
+            .collect()
+    }
 }
 
 const STEPS: i32 = 200;
@@ -173,7 +178,7 @@ fn drag(p: Planner, g: &Grid, t: &mut Tables, by: &[(i16, i16)]) -> f64 {
 /// The least time of a step over several drags, of each planner in turn.
 fn times(g: &Grid) -> [f64; 3] {
     let begin = g.tables();
-    let by = displacements(STEPS);
+    let by = g.displacements(STEPS);
     let mut least = [f64::MAX; 3];
     for _ in 0..ROUNDS {
         let mut after = vec![];
@@ -195,7 +200,7 @@ fn graphviz_time(g: &Grid) -> Option<f64> {
     if !graphviz::INSTALLED || !g.for_graphviz() {
         return None;
     }
-    let by = displacements(GRAPHVIZ_STEPS);
+    let by = g.displacements(GRAPHVIZ_STEPS);
     let mut ours = g.tables();
     for &b in &by {
         assert_eq!(step(Planner::Ours, &mut ours, g.dragged, b), 0);
@@ -206,7 +211,7 @@ fn graphviz_time(g: &Grid) -> Option<f64> {
 
 /// The least time of our step alone.
 fn our_time(g: &Grid) -> f64 {
-    let by = displacements(STEPS);
+    let by = g.displacements(STEPS);
     (0..ROUNDS).map(|_| drag(Planner::Ours, g, &mut g.tables(), &by)).fold(f64::MAX, f64::min)
 }
 
@@ -327,7 +332,7 @@ fn main() {
                 _ => panic!("bench: no planner {planner}"),
             };
             let g = Grid { runs: runs.parse().expect("a count of runs"), ..grid(word) };
-            drag(p, &g, &mut g.tables(), &displacements(steps.parse().expect("a count of steps")));
+            drag(p, &g, &mut g.tables(), &g.displacements(steps.parse().expect("a count of steps")));
         }
         // for callgrind: one check of a yard
         ["check", word] => {

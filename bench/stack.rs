@@ -1,7 +1,7 @@
 //! The greatest depth of stack inside each call, against the figures of `include/yard.h` and what it has its user
 //! reserve: the call runs on a stack painted beforehand.
 
-use crate::{abi::*, displacements, ducts, pieces, quotes, Grid, Tables, CROWDED, TOUCHING};
+use crate::{abi::*, ducts, pieces, quotes, Grid, Tables, CROWDED, TOUCHING};
 use std::arch::asm;
 
 const SIZE: usize = 1 << 20;
@@ -111,7 +111,7 @@ fn every_kind(yard: &Grid) -> Vec<u8> {
         bytes.insert(2, (fields.len() / 2) as u8);
         bytes
     };
-    let ends = Grid::ends(NUMBER as u16);
+    let ends = yard.ends(NUMBER as u16);
     let edits = [
         record(3, &[100, 65_436]),
         record(6, &[0, 0, 32_767, 32_767]),
@@ -137,7 +137,7 @@ fn calls(yard: &Grid) -> [(&'static str, Vec<(Tables, Call)>); PANELS + 2] {
     let mut without = full.clone();
     perform(&mut Job { t: &mut without, call: Call::RemoveBlock });
     perform(&mut Job { t: &mut without, call: Call::RemoveRun });
-    let move_blocks = displacements(3).into_iter().map(|d| (full.clone(), Call::MoveBlock(d.0, d.1))).collect();
+    let move_blocks = yard.displacements(3).into_iter().map(|d| (full.clone(), Call::MoveBlock(d.0, d.1))).collect();
     let move_runs = [[0, 0, 32767, 32767], [7, 9, 7, 9]].map(|ends| (full.clone(), Call::MoveRun(ends))).to_vec();
     let set_charges = [0, 500, 1000].map(|figure| (full.clone(), Call::SetCharge(figure))).to_vec();
     // a straight, a bend, the last piece of a short route, and none
@@ -154,7 +154,7 @@ fn calls(yard: &Grid) -> [(&'static str, Vec<(Tables, Call)>); PANELS + 2] {
         ("yard_add_block", vec![(without.clone(), Call::AddBlock(yard.corners(NUMBER as usize)))]),
         ("yard_remove_block", vec![(full.clone(), Call::RemoveBlock)]),
         ("yard_move_block", move_blocks),
-        ("yard_add_run", vec![(without, Call::AddRun(Grid::ends(NUMBER as u16)))]),
+        ("yard_add_run", vec![(without, Call::AddRun(yard.ends(NUMBER as u16)))]),
         ("yard_remove_run", vec![(full.clone(), Call::RemoveRun)]),
         ("yard_move_run", move_runs),
         ("yard_set_charge", set_charges),
