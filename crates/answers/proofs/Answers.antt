@@ -91,7 +91,7 @@ module _ (T : Tables) (v n : ℕ) (f : v ≡ fitness T) where
     unfolding firstNo
     named-none h = rw (fit-named, lt-ltb n 24 h)
 
--- every edit asks question 3 first, of the number that it names; the figure's may ask it too
+-- every edit asks question 3 first, of the number that it names; that of the figure names 0, and to ask it of that changes nothing
 asks-number : (b : Book) (e : Edit) → (qs : List Question) × (firstNo (questions b e) ≡ firstNo (ask 3 (numberRight (numberOf e)) ∷ qs))
 unfolding questions firstNo
 asks-number b (addBlock n ws) = (drop 1 (questions b (addBlock n ws)), refl)

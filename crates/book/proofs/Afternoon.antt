@@ -8,6 +8,7 @@ use lib.ListN.{length, take, drop, replicate}
 use lib.Seq.{take-append-seam}
 use Rattle.geometry.specs.Words.{point, word}
 use Rattle.lengths.specs.Length.{lengthOf, rootUp}
+use Rattle.lengths.specs.Charge.{charge}
 use Rattle.paths.specs.Path.{Chain, NoChain, total}
 use Rattle.tables.specs.Tables.{Records, Tables, records, routeWords, firstEnd, secondEnd, pairIndex}
 use Rattle.tables.specs.Written.{runRecord}
@@ -15,7 +16,7 @@ use Rattle.visibility.specs.Visibility.{ByPlaces, absent, clear}
 use Rattle.search.specs.Network.{cost, graph}
 use Rattle.routing.specs.Routes.{RouteIs, noRun, found, noWay}
 use Rattle.book.specs.Questions.{firstNo}
-use Rattle.book.specs.Book.{Edit, addRun, emptyBook, free, questions, answer, written, step, target, afterAll}
+use Rattle.book.specs.Book.{Edit, addRun, setCharge, emptyBook, free, questions, answer, written, step, target, afterAll}
 use Rattle.book.specs.Drawing.{Drawn}
 use Rattle.book.specs.Edits.{answerOver, Called, Checked, started}
 use Rattle.book.specs.History.{Calls, noCalls, call, MayRewrite}
@@ -98,13 +99,21 @@ module _ (p : Program) (m : Meets p) where
 
   -- shows each run a fixed route, whatever the yard
   pub fixed-route : (ws : ℕ → List ℕ) → ((es : List Edit) (k : ℕ) → k < 24 → word (yard p es .runs) (5 * k) ≡ 1 → routeWords (yard p es .routes) k ≡ ws k) → ⊥
-  unfolding afterAll step written answer questions free firstNo lengthOf rootUp
+  unfolding afterAll step written answer questions free firstNo lengthOf rootUp charge
   fixed-route ws f =
       let none = yard-drawn p m (run 0 0 ∷ []) in
       let one = yard-drawn p m (run 0 1 ∷ []) in
-      let d : word (ws 0) 1 ≡ 0 = ap (λ (s : List ℕ). word s 1) (sym (f (run 0 0 ∷ []) 0 (omega arith) (there _ _ _ none))) ∙ lone-length (point 0 0) (point 0 0) _ none in
-      let e : word (ws 0) 1 ≡ 1 = ap (λ (s : List ℕ). word s 1) (sym (f (run 0 1 ∷ []) 0 (omega arith) (there _ _ _ one))) ∙ lone-length (point 0 0) (point 1 0) _ one in
+      let d : word (ws 0) 1 ≡ 0 = ap (λ (s : List ℕ). word s 1) (sym (f (run 0 0 ∷ []) 0 (omega arith) (there _ _ 0 _ none))) ∙ lone-length (point 0 0) (point 0 0) 0 _ none in
+      let e : word (ws 0) 1 ≡ 1 = ap (λ (s : List ℕ). word s 1) (sym (f (run 0 1 ∷ []) 0 (omega arith) (there _ _ 0 _ one))) ∙ lone-length (point 0 0) (point 1 0) 0 _ one in
       omega arith
+
+  -- sets the figure and leaves the routes as they were
+  pub old-routes : ((es : List Edit) (f : ℕ) → p .leaves (setCharge f) (yard p es) .routes ≡ yard p es .routes) → ⊥
+  unfolding afterAll step written answer questions free firstNo lengthOf rootUp charge
+  old-routes f =
+      let one = lone-length (point 0 0) (point 1 0) 0 _ (yard-drawn p m (run 0 1 ∷ [])) in
+      let two = lone-length (point 0 0) (point 1 0) 2 _ (yard-drawn p m (run 0 1 ∷ setCharge 2 ∷ [])) in
+      omega (arith, ap (λ (s : List ℕ). word (routeWords s 0) 1) (f (run 0 1 ∷ []) 2))
 
   -- takes a length or a count from the air: what it stores of a route is the sum along the marks that it stores, so many of them, and they are a chain
   pub from-the-chain : (es : List Edit) (k : ℕ) → k < 24 → (ws : List ℕ) → routeWords (yard p es .routes) k ≡ ws → word ws 0 ≡ 1

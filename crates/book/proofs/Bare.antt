@@ -9,7 +9,7 @@ use lib.ListN.{getD, replicate}
 use borrow.Author.Tests.{ltb-true}
 use Rattle.geometry.specs.Words.{Point, point, word, blockWords}
 use Rattle.lengths.specs.Length.{lengthOf}
-use Rattle.lengths.proofs.Charges.{charge-plain}
+use Rattle.lengths.specs.Charge.{charge}
 use Rattle.lists.proofs.Every.{both}
 use Rattle.paths.specs.Path.{Chain, last, more, total}
 use Rattle.tables.specs.Tables.{Tables, records, routeWords, isCorner, isEnd, present, placeOf, pairIndex}
@@ -18,7 +18,7 @@ use Rattle.tables.proofs.Splices.{block-first, run-first, run-word}
 use Rattle.visibility.specs.Visibility.{ByPlaces, ClearBetween, PairIs, absent, clear, seam, hidden, bothPresent}
 use Rattle.search.specs.Network.{cost, graph}
 use Rattle.routing.specs.Routes.{RouteIs, noRun, found, noWay}
-use Rattle.book.specs.Book.{Book, emptyBook, withRun}
+use Rattle.book.specs.Book.{Book, emptyBook, withRun, withFigure}
 use Rattle.book.specs.Drawing.{Drawn}
 use Rattle.book.proofs.Sound.{none-there}
 
@@ -87,8 +87,8 @@ module _ (b : Book) (T : Tables) (d : Drawn b T) where
         go (seam e c q) = absurd (all-clear 194 195 .unshared (c .shared))
         go (hidden e l h n) = absurd (all-clear 194 195 .seen _ l h)
 
--- run 0 alone: its route is the straight between its ends
-module _ (a q : Point) (T : Tables) (d : Drawn (withRun emptyBook 0 (a ∷ q ∷ [])) T) where
+-- run 0 alone, under a figure: its route is the straight between its ends
+module _ (a q : Point) (f : ℕ) (T : Tables) (d : Drawn (withFigure (withRun emptyBook 0 (a ∷ q ∷ [])) f) T) where
   bare : (n : ℕ) → _≡_ {A = List Point} (getD (replicate 24 []) n []) []
   bare n = none-there 24 n
 
@@ -102,18 +102,18 @@ module _ (a q : Point) (T : Tables) (d : Drawn (withRun emptyBook 0 (a ∷ q ∷
   straight : Chain (graph (records T) (ByPlaces (records T))) 193 192 (192 ∷ 193 ∷ [])
   straight = let apart : _≡_ {A = ℕ} 192 193 → ⊥ = λ e. omega arith in last (apart, (ends, all-clear _ T d bare 192 193))
 
-  costs : cost (records T) 192 193 ≡ lengthOf a q
+  costs : cost (records T) 192 193 ≡ charge f (lengthOf a q)
   unfolding cost
-  costs = rw (d .figure, first-place _ T d a q refl, second-place _ T d a q refl) (charge-plain (lengthOf a q))
+  costs = rw (d .figure, first-place _ T d a q refl, second-place _ T d a q refl)
 
-  pub lone-length : word (routeWords (T .routes) 0) 1 ≡ lengthOf a q
+  pub lone-length : word (routeWords (T .routes) 0) 1 ≡ charge f (lengthOf a q)
   lone-length = go (d .right .routes 0 (omega arith))
     where
-      go : {ws : List ℕ} → RouteIs (records T) (ByPlaces (records T)) 0 ws → word ws 1 ≡ lengthOf a q
+      go : {ws : List ℕ} → RouteIs (records T) (ByPlaces (records T)) 0 ws → word ws 1 ≡ charge f (lengthOf a q)
       go (noRun e) = absurd (omega (arith, there))
-      go (noWay e f) = absurd (f _ straight)
+      go (noWay e none) = absurd (none _ straight)
       go (found e us r) = only (r .chain)
         where
-          only : {vs : List ℕ} → Chain (graph (records T) (ByPlaces (records T))) 193 192 vs → total (cost (records T)) vs ≡ lengthOf a q
+          only : {vs : List ℕ} → Chain (graph (records T) (ByPlaces (records T))) 193 192 vs → total (cost (records T)) vs ≡ charge f (lengthOf a q)
           only (last e) = rw costs (omega arith)
           only (more i e c) = absurd (no-corner _ T d bare _ i)

@@ -33,7 +33,7 @@ tall = 10 ∷ 6 ∷ 14 ∷ 7 ∷ 14 ∷ 40 ∷ 10 ∷ 40 ∷ []
 abbrev pub small : List ℕ
 small = 11 ∷ 1 ∷ 13 ∷ 1 ∷ 12 ∷ 5 ∷ []
 
--- a block that one way round has two short straights more, the other one long one
+-- a block round which one way has two short straights where the other has one long one
 abbrev pub slim : List ℕ
 slim = 8 ∷ 4 ∷ 10 ∷ 16 ∷ 8 ∷ 16 ∷ []
 
@@ -71,7 +71,7 @@ rows =
     -- the listed yard before block 1, and with it
     ∷ way (tall ∷ []) (point 0 10) (point 27 13) 31 (192 ∷ 0 ∷ 1 ∷ 193 ∷ [])
     ∷ way (tall ∷ small ∷ []) (point 0 10) (point 27 13) 30 (192 ∷ 10 ∷ 193 ∷ [])
-    -- 10, 2 and 4 give way to 10 and 10: charged at least 6; charged at least 5, as much but more straights
+    -- round it 10, 2 and 4, charged 10, 4 and 4 under 4; under 5 the other way, 10 and 10, costs as much and has fewer straights, under 6 it costs less
     ∷ way (slim ∷ []) (point 0 10) (point 11 13) 16 (192 ∷ 2 ∷ 1 ∷ 193 ∷ [])
     ∷ charged 4 (slim ∷ []) (point 0 10) (point 11 13) 18 (192 ∷ 2 ∷ 1 ∷ 193 ∷ [])
     ∷ charged 5 (slim ∷ []) (point 0 10) (point 11 13) 20 (192 ∷ 0 ∷ 193 ∷ [])
