@@ -105,6 +105,21 @@ pub fn trial_yards(p: &impl Planner, report: &mut Report) {
         edits.push(Edit::RemoveBlock(1));
         same(yard(p, &edits, calls)?.route(0), (1, 31, &[192, 0, 1, 193][..]))
     });
+    let slim = || Edit::AddBlock(0, vec![8, 4, 10, 16, 8, 16]);
+    let round_it: [(u16, u32, &[u32]); 4] = [(0, 16, &[192, 2, 1, 193]), (4, 18, &[192, 2, 1, 193]), (5, 20, &[192, 0, 193]), (6, 20, &[192, 0, 193])];
+    for (figure, length, marks) in round_it {
+        report.case(&format!("two short straights or a long one, least charge {figure}"), |calls| {
+            for edits in [[slim(), run([0, 10, 11, 13]), Edit::SetCharge(figure)], [Edit::SetCharge(figure), run([0, 10, 11, 13]), slim()]] {
+                same(yard(p, &edits, calls)?.route(0), (1, length, marks))?;
+            }
+            Ok(())
+        });
+    }
+    for (ends, length) in [([5, 5, 5, 5], 0), ([5, 5, 5, 6], 1000)] {
+        report.case(&format!("a least charge of 1,000, run 0 {ends:?}"), |calls| {
+            same(yard(p, &[run(ends), Edit::SetCharge(1000)], calls)?.route(0), (1, length, &[192, 193][..]))
+        });
+    }
     report.case("the star", |calls| refusal(p, &[], Edit::AddBlock(0, vec![10, 0, 16, 20, 0, 8, 20, 8, 4, 20]), 8, calls));
     report.case("coordinate 32,767 is taken", |calls| {
         yard(p, &[Edit::AddBlock(0, vec![32766, 0, 32767, 0, 32767, 32767]), run([32767, 32767, 0, 32767])], calls)?;
