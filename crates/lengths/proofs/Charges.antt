@@ -34,10 +34,10 @@ charge-plain zero = refl
 charge-plain (suc l) = omega arith
 
 -- a length is at most `most` exactly where the square is at most its square
-pub root-within : (n most : ℕ) → n ≤ most * most → rootUp n ≤ most
+root-within : (n most : ℕ) → n ≤ most * most → rootUp n ≤ most
 root-within n most h = root-is n .least most h
 
-pub root-beyond : (n most : ℕ) → most * most < n → most < rootUp n
+root-beyond : (n most : ℕ) → most * most < n → most < rootUp n
 root-beyond n most h = square-lt most (rootUp n) (omega (arith, root-is n .enough))
 
 root-above : (n : ℕ) → (n ≡ 0 → ⊥) → 0 < rootUp n
