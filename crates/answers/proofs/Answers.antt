@@ -37,26 +37,29 @@ pub yes-of : (t b : Bool) → t ≡ b → not t ≡ false → b ≡ true
 yes-of t b e n = sym e ∙ not-false t n
 
 -- ---- question 1
-module _ (b r p s : List ℕ) where
-  pub blocks-off : (length b ≡ 408 → ⊥) → false ≡ lengthsRight (tables b r p s)
-  blocks-off h = sym (lengths-no (tables b r p s) (λ z. h (z .blocks)))
+module _ (b r p s t : List ℕ) where
+  pub blocks-off : (length b ≡ 408 → ⊥) → false ≡ lengthsRight (tables b r p s t)
+  blocks-off h = sym (lengths-no (tables b r p s t) (λ z. h (z .blocks)))
 
-  pub runs-off : (length r ≡ 121 → ⊥) → false ≡ lengthsRight (tables b r p s)
-  runs-off h = sym (lengths-no (tables b r p s) (λ z. h (z .runs)))
+  pub runs-off : (length r ≡ 121 → ⊥) → false ≡ lengthsRight (tables b r p s t)
+  runs-off h = sym (lengths-no (tables b r p s t) (λ z. h (z .runs)))
 
-  pub pairs-off : (length p ≡ 28680 → ⊥) → false ≡ lengthsRight (tables b r p s)
-  pairs-off h = sym (lengths-no (tables b r p s) (λ z. h (z .pairs)))
+  pub pairs-off : (length p ≡ 28680 → ⊥) → false ≡ lengthsRight (tables b r p s t)
+  pairs-off h = sym (lengths-no (tables b r p s t) (λ z. h (z .pairs)))
 
-  pub routes-asked : length b ≡ 408 → length r ≡ 121 → length p ≡ 28680 → eqb (length s) 4728 ≡ lengthsRight (tables b r p s)
+  pub routes-off : (length s ≡ 4728 → ⊥) → false ≡ lengthsRight (tables b r p s t)
+  routes-off h = sym (lengths-no (tables b r p s t) (λ z. h (z .routes)))
+
+  pub totals-asked : length b ≡ 408 → length r ≡ 121 → length p ≡ 28680 → length s ≡ 4728 → eqb (length t) 25 ≡ lengthsRight (tables b r p s t)
   unfolding lengthsRight
-  routes-asked eb er ep = rw (eq-eqb _ _ eb, eq-eqb _ _ er, eq-eqb _ _ ep)
+  totals-asked eb er ep es = rw (eq-eqb _ _ eb, eq-eqb _ _ er, eq-eqb _ _ ep, eq-eqb _ _ es)
 
-  module _ (t : Bool) (e : t ≡ lengthsRight (tables b r p s)) (y : not t ≡ false) where
+  module _ (u : Bool) (e : u ≡ lengthsRight (tables b r p s t)) (y : not u ≡ false) where
     pub blocks-sized : length b ≡ 408
-    blocks-sized = sized-of (tables b r p s) (yes-of t _ e y) .blocks
+    blocks-sized = sized-of (tables b r p s t) (yes-of u _ e y) .blocks
 
     pub runs-sized : length r ≡ 121
-    runs-sized = sized-of (tables b r p s) (yes-of t _ e y) .runs
+    runs-sized = sized-of (tables b r p s t) (yes-of u _ e y) .runs
 
 -- ---- questions 1 and 2
 module _ (T : Tables) (t : Bool) (a : t ≡ lengthsRight T) where
@@ -248,12 +251,12 @@ module _ (T : Tables) (v n : ℕ) (f : v ≡ named T n) (z : v ≡ 0) where
       add-run-0 b = rw (own (addRun n p q), below, unused-place, yes-of _ _ a b)
 
 -- what a call may read once the tables are fit
-module _ (b r p s : List ℕ) (v n : ℕ) (f : v ≡ named (tables b r p s) n) (z : v ≡ 0) where
-  facts : Fitting (tables b r p s)
-  facts = named-fitting (tables b r p s) v n f z
+module _ (b r p s t : List ℕ) (v n : ℕ) (f : v ≡ named (tables b r p s t) n) (z : v ≡ 0) where
+  facts : Fitting (tables b r p s t)
+  facts = named-fitting (tables b r p s t) v n f z
 
   h : n < 24
-  h = number-below (tables b r p s) v n f z
+  h = number-below (tables b r p s t) v n f z
 
   pub in-blocks : 17 * n < length b
   in-blocks = omega (arith, h, facts .sized .blocks)

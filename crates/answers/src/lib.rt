@@ -19,8 +19,14 @@ use records::place_right;
 use records::records_right;
 
 // Question 1.
-pub fn lengths_right(blocks: &[u16], runs: &[u16], pairs: &[u8], routes: &[u32]) -> bool
-    ensures { λ r. ⌜ r ≡ lengthsRight (tables (now (blocks .entry)) (now (runs .entry)) (now (pairs .entry)) (now (routes .entry))) ⌝ }
+pub fn lengths_right(
+    blocks: &[u16],
+    runs: &[u16],
+    pairs: &[u8],
+    routes: &[u32],
+    totals: &[u32],
+) -> bool
+    ensures { λ r. ⌜ r ≡ lengthsRight (tables (now (blocks .entry)) (now (runs .entry)) (now (pairs .entry)) (now (routes .entry)) (now (totals .entry))) ⌝ }
 {
     if blocks.len() != 408 {
         return false;
@@ -31,14 +37,17 @@ pub fn lengths_right(blocks: &[u16], runs: &[u16], pairs: &[u8], routes: &[u32])
     if pairs.len() != 28680 {
         return false;
     }
-    routes.len() == 4728
+    if routes.len() != 4728 {
+        return false;
+    }
+    totals.len() == 25
 }
 
 // Questions 1 and 2.
-pub fn fitness(blocks: &[u16], runs: &[u16], pairs: &[u8], routes: &[u32]) -> u32
-    ensures { λ r. ⌜ r ≡ fitness (tables (now (blocks .entry)) (now (runs .entry)) (now (pairs .entry)) (now (routes .entry))) ⌝ }
+pub fn fitness(blocks: &[u16], runs: &[u16], pairs: &[u8], routes: &[u32], totals: &[u32]) -> u32
+    ensures { λ r. ⌜ r ≡ fitness (tables (now (blocks .entry)) (now (runs .entry)) (now (pairs .entry)) (now (routes .entry)) (now (totals .entry))) ⌝ }
 {
-    if !lengths_right(blocks, runs, pairs, routes) {
+    if !lengths_right(blocks, runs, pairs, routes, totals) {
         return 1;
     }
     if !records_right(blocks, runs) {
@@ -48,10 +57,17 @@ pub fn fitness(blocks: &[u16], runs: &[u16], pairs: &[u8], routes: &[u32]) -> u3
 }
 
 // Questions 1 to 3.
-pub fn named(blocks: &[u16], runs: &[u16], pairs: &[u8], routes: &[u32], number: u32) -> u32
-    ensures { λ r. ⌜ r ≡ named (tables (now (blocks .entry)) (now (runs .entry)) (now (pairs .entry)) (now (routes .entry))) number ⌝ }
+pub fn named(
+    blocks: &[u16],
+    runs: &[u16],
+    pairs: &[u8],
+    routes: &[u32],
+    totals: &[u32],
+    number: u32,
+) -> u32
+    ensures { λ r. ⌜ r ≡ named (tables (now (blocks .entry)) (now (runs .entry)) (now (pairs .entry)) (now (routes .entry)) (now (totals .entry))) number ⌝ }
 {
-    let v = fitness(blocks, runs, pairs, routes);
+    let v = fitness(blocks, runs, pairs, routes, totals);
     if v != 0 {
         return v;
     }
@@ -66,13 +82,14 @@ pub fn add_block_answer(
     runs: &[u16],
     pairs: &[u8],
     routes: &[u32],
+    totals: &[u32],
     number: u32,
     corners: &[u16],
 ) -> u32
-    ensures { λ r. ⌜ r ≡ answerOver (tables (now (blocks .entry)) (now (runs .entry)) (now (pairs .entry)) (now (routes .entry)))
+    ensures { λ r. ⌜ r ≡ answerOver (tables (now (blocks .entry)) (now (runs .entry)) (now (pairs .entry)) (now (routes .entry)) (now (totals .entry)))
         (addBlock number (now (corners .entry))) ⌝ }
 {
-    let v = named(blocks, runs, pairs, routes, number);
+    let v = named(blocks, runs, pairs, routes, totals, number);
     if v != 0 {
         return v;
     }
@@ -98,12 +115,13 @@ pub fn remove_block_answer(
     runs: &[u16],
     pairs: &[u8],
     routes: &[u32],
+    totals: &[u32],
     number: u32,
 ) -> u32
-    ensures { λ r. ⌜ r ≡ answerOver (tables (now (blocks .entry)) (now (runs .entry)) (now (pairs .entry)) (now (routes .entry)))
+    ensures { λ r. ⌜ r ≡ answerOver (tables (now (blocks .entry)) (now (runs .entry)) (now (pairs .entry)) (now (routes .entry)) (now (totals .entry)))
         (removeBlock number) ⌝ }
 {
-    let v = named(blocks, runs, pairs, routes, number);
+    let v = named(blocks, runs, pairs, routes, totals, number);
     if v != 0 {
         return v;
     }
@@ -119,14 +137,15 @@ pub fn move_block_answer(
     runs: &[u16],
     pairs: &[u8],
     routes: &[u32],
+    totals: &[u32],
     number: u32,
     east: i16,
     north: i16,
 ) -> u32
-    ensures { λ r. ⌜ r ≡ answerOver (tables (now (blocks .entry)) (now (runs .entry)) (now (pairs .entry)) (now (routes .entry)))
+    ensures { λ r. ⌜ r ≡ answerOver (tables (now (blocks .entry)) (now (runs .entry)) (now (pairs .entry)) (now (routes .entry)) (now (totals .entry)))
         (moveBlock number east north) ⌝ }
 {
-    let v = named(blocks, runs, pairs, routes, number);
+    let v = named(blocks, runs, pairs, routes, totals, number);
     if v != 0 {
         return v;
     }
@@ -155,14 +174,15 @@ pub fn add_run_answer(
     runs: &[u16],
     pairs: &[u8],
     routes: &[u32],
+    totals: &[u32],
     number: u32,
     first: Place,
     second: Place,
 ) -> u32
-    ensures { λ r. ⌜ r ≡ answerOver (tables (now (blocks .entry)) (now (runs .entry)) (now (pairs .entry)) (now (routes .entry)))
+    ensures { λ r. ⌜ r ≡ answerOver (tables (now (blocks .entry)) (now (runs .entry)) (now (pairs .entry)) (now (routes .entry)) (now (totals .entry)))
         (addRun number (pointOf first) (pointOf second)) ⌝ }
 {
-    let v = named(blocks, runs, pairs, routes, number);
+    let v = named(blocks, runs, pairs, routes, totals, number);
     if v != 0 {
         return v;
     }
@@ -181,12 +201,13 @@ pub fn remove_run_answer(
     runs: &[u16],
     pairs: &[u8],
     routes: &[u32],
+    totals: &[u32],
     number: u32,
 ) -> u32
-    ensures { λ r. ⌜ r ≡ answerOver (tables (now (blocks .entry)) (now (runs .entry)) (now (pairs .entry)) (now (routes .entry)))
+    ensures { λ r. ⌜ r ≡ answerOver (tables (now (blocks .entry)) (now (runs .entry)) (now (pairs .entry)) (now (routes .entry)) (now (totals .entry)))
         (removeRun number) ⌝ }
 {
-    let v = named(blocks, runs, pairs, routes, number);
+    let v = named(blocks, runs, pairs, routes, totals, number);
     if v != 0 {
         return v;
     }
@@ -202,14 +223,15 @@ pub fn move_run_answer(
     runs: &[u16],
     pairs: &[u8],
     routes: &[u32],
+    totals: &[u32],
     number: u32,
     first: Place,
     second: Place,
 ) -> u32
-    ensures { λ r. ⌜ r ≡ answerOver (tables (now (blocks .entry)) (now (runs .entry)) (now (pairs .entry)) (now (routes .entry)))
+    ensures { λ r. ⌜ r ≡ answerOver (tables (now (blocks .entry)) (now (runs .entry)) (now (pairs .entry)) (now (routes .entry)) (now (totals .entry)))
         (moveRun number (pointOf first) (pointOf second)) ⌝ }
 {
-    let v = named(blocks, runs, pairs, routes, number);
+    let v = named(blocks, runs, pairs, routes, totals, number);
     if v != 0 {
         return v;
     }
@@ -228,12 +250,13 @@ pub fn set_charge_answer(
     runs: &[u16],
     pairs: &[u8],
     routes: &[u32],
+    totals: &[u32],
     figure: u16,
 ) -> u32
-    ensures { λ r. ⌜ r ≡ answerOver (tables (now (blocks .entry)) (now (runs .entry)) (now (pairs .entry)) (now (routes .entry)))
+    ensures { λ r. ⌜ r ≡ answerOver (tables (now (blocks .entry)) (now (runs .entry)) (now (pairs .entry)) (now (routes .entry)) (now (totals .entry)))
         (setCharge figure) ⌝ }
 {
-    let v = fitness(blocks, runs, pairs, routes);
+    let v = fitness(blocks, runs, pairs, routes, totals);
     if v != 0 {
         return v;
     }

@@ -1,4 +1,4 @@
-// The edit that a record of a yard file asks for, called over four tables that the caller lends.
+// The edit that a record of a yard file asks for, called over five tables that the caller lends.
 ghost use Rattle.tables.specs.Tables.{tables};
 ghost use Rattle.book.specs.Edits.{Called};
 ghost use Rattle.fields.specs.Asked.{editOf};
@@ -20,32 +20,33 @@ pub fn apply(
     runs: &mut [u16],
     pairs: &mut [u8],
     routes: &mut [u32],
+    totals: &mut [u32],
 ) -> u32
     requires { ⌜ Whole (now file) item ⌝ }
     ensures { λ r. ⌜ Called (editOf (now (file .entry)) item)
-        (tables (now (blocks .entry)) (now (runs .entry)) (now (pairs .entry)) (now (routes .entry)))
-        r (tables (now (blocks .exit)) (now (runs .exit)) (now (pairs .exit)) (now (routes .exit))) ⌝ }
+        (tables (now (blocks .entry)) (now (runs .entry)) (now (pairs .entry)) (now (routes .entry)) (now (totals .entry)))
+        r (tables (now (blocks .exit)) (now (runs .exit)) (now (pairs .exit)) (now (routes .exit)) (now (totals .exit))) ⌝ }
 {
     let kind = item.kind;
     let number = item.number as u32;
     let at = item.fields;
     if kind == 1 {
-        return add_block_at(file, at, blocks, runs, pairs, routes, number);
+        return add_block_at(file, at, blocks, runs, pairs, routes, totals, number);
     }
     if kind == 2 {
-        return remove_block(blocks, runs, pairs, routes, number);
+        return remove_block(blocks, runs, pairs, routes, totals, number);
     }
     if kind == 3 {
-        return move_block_at(file, at, blocks, runs, pairs, routes, number);
+        return move_block_at(file, at, blocks, runs, pairs, routes, totals, number);
     }
     if kind == 4 {
-        return add_run_at(file, at, blocks, runs, pairs, routes, number);
+        return add_run_at(file, at, blocks, runs, pairs, routes, totals, number);
     }
     if kind == 5 {
-        return remove_run(blocks, runs, pairs, routes, number);
+        return remove_run(blocks, runs, pairs, routes, totals, number);
     }
     if kind == 6 {
-        return move_run_at(file, at, blocks, runs, pairs, routes, number);
+        return move_run_at(file, at, blocks, runs, pairs, routes, totals, number);
     }
-    set_charge_at(file, at, blocks, runs, pairs, routes)
+    set_charge_at(file, at, blocks, runs, pairs, routes, totals)
 }

@@ -10,12 +10,15 @@ use Rattle.geometry.specs.Words.{point, word}
 use Rattle.lengths.specs.Length.{lengthOf, rootUp}
 use Rattle.lengths.specs.Charge.{charge}
 use Rattle.paths.specs.Path.{Chain, NoChain, total}
-use Rattle.tables.specs.Tables.{Records, Tables, records, routeWords, firstEnd, secondEnd, pairIndex}
+use Rattle.tables.specs.Tables.{Records, Tables, tables, records, routeWords, firstEnd, secondEnd, pairIndex}
 use Rattle.tables.specs.Written.{runRecord}
+use Rattle.tables.proofs.Splices.{word-replicate}
 use Rattle.visibility.specs.Visibility.{ByPlaces, absent, clear}
 use Rattle.search.specs.Network.{cost, graph}
 use Rattle.routing.specs.Routes.{RouteIs, noRun, found, noWay}
-use Rattle.book.specs.Questions.{firstNo}
+use Rattle.totals.proofs.Counting.{count-few}
+use Rattle.totals.proofs.Totals.{totals-count}
+use Rattle.book.specs.Questions.{firstNo, lengthsRight}
 use Rattle.book.specs.Book.{Edit, addRun, setCharge, emptyBook, free, questions, answer, written, step, target, afterAll}
 use Rattle.book.specs.Drawing.{Drawn}
 use Rattle.book.specs.Edits.{answerOver, Called, Checked, started}
@@ -62,6 +65,14 @@ yard-number p m es e = m e (yard p es) .answer ∙ drawn-answer (afterAll emptyB
 -- run k from (0,0) to (e,0)
 abbrev run : ℕ → ℕ → Edit
 run k e = addRun k (point 0 0) (point e 0)
+
+-- an empty yard with totals that no yard has
+abbrev miscounted : Tables
+miscounted = tables (started .blocks) (started .runs) (started .pairs) (started .routes) (replicate 25 28681)
+
+miscounted-answer : (e : Edit) → answerOver miscounted e ≡ answer emptyBook e
+unfolding answerOver lengthsRight started
+miscounted-answer e = drawn-answer emptyBook started empty-sound started-drawn e
 
 -- ---- the afternoon
 module _ (p : Program) (m : Meets p) where
@@ -114,6 +125,15 @@ module _ (p : Program) (m : Meets p) where
       let one = lone-length (point 0 0) (point 1 0) 0 _ (yard-drawn p m (run 0 1 ∷ [])) in
       let two = lone-length (point 0 0) (point 1 0) 2 _ (yard-drawn p m (run 0 1 ∷ setCharge 2 ∷ [])) in
       omega (arith, ap (λ (s : List ℕ). word (routeWords s 0) 1) (f (run 0 1 ∷ []) 2))
+
+  -- leaves the count of some block as it was, as one that renews the edited block's alone
+  pub old-count : (k : ℕ) → k < 24 → ((e : Edit) (T : Tables) → p .number e T ≡ 0 → word (p .leaves e T .totals) k ≡ word (T .totals) k) → ⊥
+  unfolding answer questions free firstNo
+  old-count k l f =
+      let z : p .number (run 0 0) miscounted ≡ 0 = m (run 0 0) miscounted .answer ∙ miscounted-answer (run 0 0) in
+      let e = m (run 0 0) miscounted .done z in
+      let T = p .leaves (run 0 0) miscounted in
+      omega (arith, f (run 0 0) miscounted z, ap (λ (t : List ℕ). word t k) (e .totals), totals-count (T .pairs) (T .routes) k l, count-few k (T .pairs), e .pairs .sized, word-replicate 25 k 28681 (omega arith))
 
   -- takes a length or a count from the air: what it stores of a route is the sum along the marks that it stores, so many of them, and they are a chain
   pub from-the-chain : (es : List Edit) (k : ℕ) → k < 24 → (ws : List ℕ) → routeWords (yard p es .routes) k ≡ ws → word ws 0 ≡ 1

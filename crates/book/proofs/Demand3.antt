@@ -23,6 +23,7 @@ use Rattle.book.specs.History.{Calls, Demand3, call, noCalls}
 use Rattle.tables.proofs.Splices.{blockRecord-none, corners-record, part-replicate, runRecord-none, word-replicate, word-zeros}
 use Rattle.tables.proofs.Kept.{Same, block-here, block-other, block-same, block-size, figure-here, figure-runs, figure-same, figure-size, run-figure, run-here, run-other, run-same, run-size}
 use Rattle.tables.proofs.Pairs.{pair-in}
+use Rattle.totals.proofs.Totals.{totals-length, totals-none}
 use Rattle.visibility.proofs.Lasting.{block-pair, pair-on, run-pair}
 use Rattle.lists.proofs.Below.{all-yes}
 use Rattle.book.proofs.Sound.{Allowed, Sound, accepted, block, empty-sound, least, none-there, place-after, run, step-done, step-refused, write-sound}
@@ -33,7 +34,7 @@ use Rattle.book.proofs.Rerouting.{route-right}
 module _ (b : Book) (T : Tables) (s : Sound b) (d : Drawn b T) where
   pub drawn-lengths : lengthsRight T ≡ true
   unfolding lengthsRight
-  drawn-lengths = rw (d .sizes .0, d .sizes .1, d .sizes .2, d .sizes .3)
+  drawn-lengths = rw (d .sizes .0, d .sizes .1, d .sizes .2, d .sizes .3, d .right .totals, totals-length (T .pairs) (T .routes))
 
   pub drawn-records : recordsRight (records T) ≡ true
   unfolding recordsRight
@@ -78,7 +79,7 @@ started-drawn =
       blocks = λ n l. rw (none-there 24 n) (part-replicate 408 (17 * n) 17 0 (omega arith) ∙ sym blockRecord-none);
       runs = λ m l. rw (none-there 24 m) (part-replicate 121 (5 * m) 5 0 (omega arith) ∙ sym runRecord-none);
       figure = word-zeros 121 120;
-      right = record { pairs = record { each = started-pair }; routes = started-route };
+      right = record { pairs = record { each = started-pair }; routes = started-route; totals = sym totals-none };
     }
 
 block-drawn : (b : Book) (T T′ : Tables) (n : ℕ) (ps : List Point) → Sound b → Drawn b T → n < 24 → BlockPlace ps → BlockEdited T n (blockRecord ps) T′ → Drawn (withBlock b n ps) T′
@@ -91,7 +92,7 @@ block-drawn b T T′ n ps s d l h e =
           (λ q. other k q ∙ d .blocks k c);
       runs = λ m c. rw (e .runs) (d .runs m c);
       figure = rw (e .runs) (d .figure);
-      right = record { pairs = pairs; routes = λ m c. route-right (records T′) (T′ .pairs) pairs m _ c (e .routes .each m c) };
+      right = record { pairs = pairs; routes = λ m c. route-right (records T′) (T′ .pairs) pairs m _ c (e .routes .each m c); totals = e .totals };
     }
   where
     small : length ps ≤ 8
@@ -116,7 +117,7 @@ run-drawn b T T′ m ps s d l h e =
           (λ q. rw q (run-here (records T) (records T′) m ps l (d .sizes .1) full (e .blocks) (e .runs)))
           (λ q. run-other (records T) (records T′) m ps l (d .sizes .1) full (e .blocks) (e .runs) k q ∙ d .runs k c);
       figure = run-figure (records T) (records T′) m ps l (d .sizes .1) full (e .blocks) (e .runs) ∙ d .figure;
-      right = record { pairs = pairs; routes = λ k c. route-right (records T′) (T′ .pairs) pairs k _ c (e .routes .each k c) };
+      right = record { pairs = pairs; routes = λ k c. route-right (records T′) (T′ .pairs) pairs k _ c (e .routes .each k c); totals = e .totals };
     }
   where
     full : length (runRecord ps) ≡ 5
@@ -135,7 +136,7 @@ figure-drawn b T T′ f d e =
       blocks = λ n c. rw (e .blocks) (d .blocks n c);
       runs = λ m c. figure-runs (records T) (records T′) f (e .blocks) (e .runs) m c ∙ d .runs m c;
       figure = figure-here (records T) (records T′) f (e .blocks) (e .runs) (omega (arith, d .sizes .1));
-      right = record { pairs = rw (e .pairs) pairs; routes = λ m c. route-right (records T′) (T .pairs) pairs m _ c (e .routes .each m c) };
+      right = record { pairs = rw (e .pairs) pairs; routes = λ m c. route-right (records T′) (T .pairs) pairs m _ c (e .routes .each m c); totals = rw (e .pairs) (e .totals) };
     }
   where
     same : (i : ℕ) → i < 240 → Same (records T) (records T′) i

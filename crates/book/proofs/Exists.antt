@@ -15,6 +15,7 @@ use Rattle.visibility.specs.Visibility.{ByPlaces, PairIs}
 use Rattle.visibility.proofs.Exists.{pair-exists, places-dec}
 use Rattle.routing.specs.Routes.{RouteIs}
 use Rattle.routing.proofs.Fits.{route-exists}
+use Rattle.totals.specs.Totals.{totalsOf}
 use Rattle.book.specs.Book.{Book, Edit, emptyBook, afterAll}
 use Rattle.book.specs.Drawing.{Drawn}
 use Rattle.records.proofs.Places.{RunPlace, unused, two, block-small, run-full}
@@ -27,7 +28,7 @@ run-flag ps unused = inl refl
 run-flag ps (two h) = inr refl
 
 pub drawn-exists : (b : Book) → Sound b → (T : Tables) × Drawn b T
-drawn-exists b s = (tables (R .blocks) (R .runs) (pairs .words) (routes .words), drawn)
+drawn-exists b s = (tables (R .blocks) (R .runs) (pairs .words) (routes .words) (totalsOf (pairs .words) (routes .words)), drawn)
   where
     blocks : RecordTable 17 (λ n ws. ws ≡ blockRecord (getD (b .blocks) n [])) 24
     blocks = records-exist 17 _ 24 (λ n l. (blockRecord (getD (b .blocks) n []), refl, blockRecord-length _ (block-small _ (s .blocks n))))
@@ -50,14 +51,14 @@ drawn-exists b s = (tables (R .blocks) (R .runs) (pairs .words) (routes .words),
     routes : RecordTable 197 (RouteIs R (ByPlaces R)) 24
     routes = records-exist 197 _ 24 (λ m l. route-exists R (ByPlaces R) (places-dec R) m (flag m l))
 
-    drawn : Drawn b (tables (R .blocks) (R .runs) (pairs .words) (routes .words))
+    drawn : Drawn b (tables (R .blocks) (R .runs) (pairs .words) (routes .words) (totalsOf (pairs .words) (routes .words)))
     drawn =
         record {
           sizes = (blocks .sized, length-append (runs .words) (b .figure ∷ []) ∙ omega (arith, runs .sized), pairs .sized, routes .sized);
           blocks = blocks .each;
           runs = run-of;
           figure = getD-at (runs .words) (b .figure) [] 0 120 (runs .sized);
-          right = record { pairs = record { each = pairs .each }; routes = routes .each };
+          right = record { pairs = record { each = pairs .each }; routes = routes .each; totals = refl };
         }
 
 -- so has what any list of edits leaves

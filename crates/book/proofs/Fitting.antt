@@ -4,6 +4,7 @@ use mathlib.Core.List.{[]}
 use Prim.Native.Nat.{ℕ, _*_, _<_}
 use native.Mathlib.Omega.{arith}
 use lib.ListN.{getD}
+use Rattle.lists.proofs.Values.{upTo-length}
 use Rattle.geometry.specs.Words.{blockWords}
 use Rattle.tables.specs.Tables.{Tables, records, runWords}
 use Rattle.tables.specs.Written.{blockRecord, runRecord}
@@ -13,7 +14,7 @@ use Rattle.records.proofs.Places.{BlockPlace, vacant, RunPlace, unused, block-a
 use Rattle.book.specs.Drawing.{Right, Drawn}
 use Rattle.book.specs.Edits.{bookOf}
 use Rattle.book.proofs.Questions.{Fitting}
-use Rattle.book.proofs.Stored.{book-block, book-run, book-figure, upTo-length, upTo-each}
+use Rattle.book.proofs.Stored.{book-block, book-run, book-figure, upTo-each}
 use Rattle.book.proofs.Sound.{Sound}
 
 module _ (T : Tables) (f : Fitting T) where
@@ -34,8 +35,8 @@ module _ (T : Tables) (f : Fitting T) where
   fitting-sound =
       let s = f .sized in
       record {
-        blockCount = upTo-length 24 _;
-        runCount = upTo-length 24 _;
+        blockCount = upTo-length _ 24;
+        runCount = upTo-length _ 24;
         blocks = upTo-each 24 _ BlockPlace vacant (λ k l. block-place _ (block-allowed (records T) (s .blocks) (s .runs) (f .right) k l));
         runs = upTo-each 24 _ RunPlace unused (λ k l. run-place _ (run-allowed (records T) (s .blocks) (s .runs) (f .right) k l));
         figure = figure-allowed (records T) (s .blocks) (s .runs) (f .right);

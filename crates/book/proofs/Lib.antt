@@ -7,6 +7,7 @@ pub mod Demand3
 pub mod Rewrites
 pub mod Unique
 pub mod Checks
+pub mod Totals
 pub mod Exists
 pub mod Outcomes
 pub mod Bare

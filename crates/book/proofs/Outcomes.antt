@@ -16,6 +16,7 @@ use Rattle.records.specs.Questions.{recordsRight}
 use Rattle.records.proofs.Places.{RunPlace, run-full}
 use Rattle.visibility.proofs.Exists.{blockRedrawn-exists, runRedrawn-exists}
 use Rattle.routing.proofs.Fits.{routed-exists}
+use Rattle.totals.specs.Totals.{totalsOf}
 use Rattle.book.specs.Questions.{ask, firstNo, lengthsRight}
 use Rattle.book.specs.Book.{Edit, Target, target, answer, written}
 use Rattle.book.specs.Drawing.{Drawn}
@@ -38,13 +39,13 @@ module _ (T : Tables) (f : Fitting T) where
       let R : Records = stored (splice (T .blocks) (17 * n) (blockRecord ps)) (T .runs) in
       let pairs = blockRedrawn-exists R n (T .pairs) in
       let routes = routed-exists R (pairs .0) flag in
-      (tables (R .blocks) (R .runs) (pairs .0) (routes .0), record { blocks = refl; runs = refl; pairs = pairs .1; routes = routes .1 })
+      (tables (R .blocks) (R .runs) (pairs .0) (routes .0) (totalsOf (pairs .0) (routes .0)), record { blocks = refl; runs = refl; pairs = pairs .1; routes = routes .1; totals = refl })
 
   run-edited : (m : ℕ) (ps : List Point) → m < 24 → RunPlace ps → (T′ : Tables) × RunEdited T m (runRecord ps) T′
   run-edited m ps l h =
       let pairs = runRedrawn-exists R m (T .pairs) in
       let routes = routed-exists R (pairs .0) (λ k c. after k c (ℕ-discrete k m)) in
-      (tables (R .blocks) (R .runs) (pairs .0) (routes .0), record { blocks = refl; runs = refl; pairs = pairs .1; routes = routes .1 })
+      (tables (R .blocks) (R .runs) (pairs .0) (routes .0) (totalsOf (pairs .0) (routes .0)), record { blocks = refl; runs = refl; pairs = pairs .1; routes = routes .1; totals = refl })
     where
       R : Records
       R = stored (T .blocks) (splice (T .runs) (5 * m) (runRecord ps))
@@ -58,7 +59,7 @@ module _ (T : Tables) (f : Fitting T) where
   figure-edited k =
       let R : Records = stored (T .blocks) (set (T .runs) 120 k) in
       let routes = routed-exists R (T .pairs) (λ m l. flag-of (R .runs) m _ (figure-runs (records T) R k refl refl m l ∙ fitting-run T f m l) (fitting-sound T f .runs m)) in
-      (tables (R .blocks) (R .runs) (T .pairs) (routes .0), record { blocks = refl; runs = refl; pairs = refl; routes = routes .1 })
+      (tables (R .blocks) (R .runs) (T .pairs) (routes .0) (totalsOf (T .pairs) (routes .0)), record { blocks = refl; runs = refl; pairs = refl; routes = routes .1; totals = refl })
 
   edited-exists : (p : Target) (ps : List Point) → Allowed p ps → (T′ : Tables) × Edited p T ps T′
   edited-exists p ps (block {n = n} l h) = block-edited n ps
@@ -98,14 +99,16 @@ words-dec (x ∷ xs) (y ∷ ys) = go (ℕ-discrete x y) (words-dec xs ys)
     go (no p) d = no (λ e. p (ap (λ (l : List ℕ). word l 0) e))
 
 tables-dec : (T U : Tables) → Dec (T ≡ U)
-tables-dec T U = go (words-dec (T .blocks) (U .blocks)) (words-dec (T .runs) (U .runs)) (words-dec (T .pairs) (U .pairs)) (words-dec (T .routes) (U .routes))
+tables-dec T U =
+    go (words-dec (T .blocks) (U .blocks)) (words-dec (T .runs) (U .runs)) (words-dec (T .pairs) (U .pairs)) (words-dec (T .routes) (U .routes)) (words-dec (T .totals) (U .totals))
   where
-    go : Dec (T .blocks ≡ U .blocks) → Dec (T .runs ≡ U .runs) → Dec (T .pairs ≡ U .pairs) → Dec (T .routes ≡ U .routes) → Dec (T ≡ U)
-    go (yes b) (yes r) (yes p) (yes s) = yes (λ i. tables (b i) (r i) (p i) (s i))
-    go (yes b) (yes r) (yes p) (no s) = no (λ e. s (ap (λ (W : Tables). W .routes) e))
-    go (yes b) (yes r) (no p) d = no (λ e. p (ap (λ (W : Tables). W .pairs) e))
-    go (yes b) (no r) d d′ = no (λ e. r (ap (λ (W : Tables). W .runs) e))
-    go (no b) d d′ d″ = no (λ e. b (ap (λ (W : Tables). W .blocks) e))
+    go : Dec (T .blocks ≡ U .blocks) → Dec (T .runs ≡ U .runs) → Dec (T .pairs ≡ U .pairs) → Dec (T .routes ≡ U .routes) → Dec (T .totals ≡ U .totals) → Dec (T ≡ U)
+    go (yes b) (yes r) (yes p) (yes s) (yes t) = yes (λ i. tables (b i) (r i) (p i) (s i) (t i))
+    go (yes b) (yes r) (yes p) (yes s) (no t) = no (λ e. t (ap (λ (W : Tables). W .totals) e))
+    go (yes b) (yes r) (yes p) (no s) d = no (λ e. s (ap (λ (W : Tables). W .routes) e))
+    go (yes b) (yes r) (no p) d d′ = no (λ e. p (ap (λ (W : Tables). W .pairs) e))
+    go (yes b) (no r) d d′ d″ = no (λ e. r (ap (λ (W : Tables). W .runs) e))
+    go (no b) d d′ d″ d‴ = no (λ e. b (ap (λ (W : Tables). W .blocks) e))
 
 pub checked-exists : (T : Tables) → (r : ℕ) × Checked T r
 checked-exists T = go (ℕ-discrete (fitness T) 0)

@@ -17,21 +17,23 @@ pub record Sized (T : Tables) : Type 0 where
   pub runs : length (T .runs) ≡ 121
   pub pairs : length (T .pairs) ≡ 28680
   pub routes : length (T .routes) ≡ 4728
+  pub totals : length (T .totals) ≡ 25
 
-pub sized : (b r p s : List ℕ) → length b ≡ 408 → length r ≡ 121 → length p ≡ 28680 → length s ≡ 4728 → Sized (tables b r p s)
-sized b r p s eb er ep es = record { blocks = eb; runs = er; pairs = ep; routes = es }
+pub sized : (b r p s t : List ℕ) → length b ≡ 408 → length r ≡ 121 → length p ≡ 28680 → length s ≡ 4728 → length t ≡ 25 → Sized (tables b r p s t)
+sized b r p s t eb er ep es et = record { blocks = eb; runs = er; pairs = ep; routes = es; totals = et }
 
 pub sized-of : (T : Tables) → lengthsRight T ≡ true → Sized T
 unfolding lengthsRight
 sized-of T h =
-    let a = and-eq-true-iff (eqb (length (T .blocks)) 408 && eqb (length (T .runs)) 121 && eqb (length (T .pairs)) 28680) (eqb (length (T .routes)) 4728) .0 h in
+    let t = and-eq-true-iff (eqb (length (T .blocks)) 408 && eqb (length (T .runs)) 121 && eqb (length (T .pairs)) 28680 && eqb (length (T .routes)) 4728) (eqb (length (T .totals)) 25) .0 h in
+    let a = and-eq-true-iff (eqb (length (T .blocks)) 408 && eqb (length (T .runs)) 121 && eqb (length (T .pairs)) 28680) (eqb (length (T .routes)) 4728) .0 (t .0) in
     let b = and-eq-true-iff (eqb (length (T .blocks)) 408 && eqb (length (T .runs)) 121) (eqb (length (T .pairs)) 28680) .0 (a .0) in
     let c = and-eq-true-iff (eqb (length (T .blocks)) 408) (eqb (length (T .runs)) 121) .0 (b .0) in
-    record { blocks = eqb-true _ _ (c .0); runs = eqb-true _ _ (c .1); pairs = eqb-true _ _ (b .1); routes = eqb-true _ _ (a .1) }
+    record { blocks = eqb-true _ _ (c .0); runs = eqb-true _ _ (c .1); pairs = eqb-true _ _ (b .1); routes = eqb-true _ _ (a .1); totals = eqb-true _ _ (t .1) }
 
 pub lengths-yes : (T : Tables) → Sized T → lengthsRight T ≡ true
 unfolding lengthsRight
-lengths-yes T s = rw (eq-eqb _ _ (s .blocks), eq-eqb _ _ (s .runs), eq-eqb _ _ (s .pairs), eq-eqb _ _ (s .routes))
+lengths-yes T s = rw (eq-eqb _ _ (s .blocks), eq-eqb _ _ (s .runs), eq-eqb _ _ (s .pairs), eq-eqb _ _ (s .routes), eq-eqb _ _ (s .totals))
 
 pub lengths-no : (T : Tables) → (Sized T → ⊥) → lengthsRight T ≡ false
 lengths-no T f = go (lengthsRight T) refl

@@ -57,10 +57,12 @@ old-rule T d = (
   λ w. record {
     pairs = record { each = λ i j h l. pair-now (records T) d i j _ (w .pairs i j h l) };
     routes = λ m l. route-as (records T) _ _ (λ v u a b x. clear-now (records T) d v u) (λ v u a b x. clear-then (records T) d v u) m l (w .routes m l);
+    totals = w .totals;
   },
   λ r. record {
     pairs = λ i j h l. pair-then (records T) d i j _ (r .pairs .each i j h l);
     routes = λ m l. route-as (records T) _ _ (λ v u a b x. clear-then (records T) d v u) (λ v u a b x. clear-now (records T) d v u) m l (r .routes m l);
+    totals = r .totals;
   },
 )
 

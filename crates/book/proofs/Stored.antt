@@ -1,54 +1,40 @@
 -- What the book of the stored records says, in the words of the tables.
 use mathlib.Core.Path.{_≡_, refl, sym, ap, _∙_}
-use mathlib.Core.List.{List, [], _∷_, _++_}
+use mathlib.Core.List.{List, []}
 use Prim.Native.Nat.{ℕ, zero, suc, _+_, _*_, _<_}
 use native.Mathlib.Omega.{arith}
 use native.Mathlib.Decide.{decLt}
 use lib.Dec.{eqb, eqb·suc-zero}
-use lib.ListN.{length, getD, length-append, List·getD-append, List·getD-eq-default}
-use lib.Seq.{getD-at, ext-getD}
+use lib.ListN.{length, getD, List·getD-eq-default}
+use lib.Seq.{ext-getD}
 use Rattle.geometry.specs.Words.{Point, word, blockWords, placesFrom, corners}
 use Rattle.tables.specs.Tables.{Records, runWords, figureOf}
 use Rattle.tables.proofs.Splices.{block-first, run-first}
 use Rattle.book.specs.Book.{free}
-use Rattle.book.specs.Edits.{upTo, bookOf}
-
-pub upTo-length : (n : ℕ) (f : ℕ → List Point) → length (upTo n f) ≡ n
-unfolding upTo
-upTo-length zero f = refl
-upTo-length (suc n) f = length-append (upTo n f) (f n ∷ []) ∙ omega (arith, upTo-length n f)
-
-pub upTo-at : (n : ℕ) (f : ℕ → List Point) (k : ℕ) → k < n → getD (upTo n f) k [] ≡ f k
-unfolding upTo
-upTo-at zero f k h = absurd (omega arith)
-upTo-at (suc n) f k h = go (decLt k n) (upTo-at n f k)
-  where
-    go : Dec (k < n) → (k < n → getD (upTo n f) k [] ≡ f k) → getD (upTo n f ++ (f n ∷ [])) k [] ≡ f k
-    go (yes l) ih = List·getD-append (upTo n f) (f n ∷ []) [] k (omega (arith, upTo-length n f)) ∙ ih l
-    go (no l) ih =
-        let e : k ≡ n = omega arith in
-        rw e (getD-at (upTo n f) (f n) [] [] n (upTo-length n f))
+use Rattle.lists.specs.Lists.{upTo}
+use Rattle.lists.proofs.Values.{upTo-length, upTo-at}
+use Rattle.book.specs.Edits.{bookOf}
 
 -- what holds of every value, and of an empty place, holds at every place
 pub upTo-each : (n : ℕ) (f : ℕ → List Point) (P : List Point → Type 0) → P [] → ((k : ℕ) → k < n → P (f k)) → (k : ℕ) → P (getD (upTo n f) k [])
 upTo-each n f P none each k = go (decLt k n)
   where
     go : Dec (k < n) → P (getD (upTo n f) k [])
-    go (yes l) = rw (upTo-at n f k l) (each k l)
-    go (no l) = rw (List·getD-eq-default (upTo n f) [] {n = k} (omega (arith, upTo-length n f))) none
+    go (yes l) = rw (upTo-at f n [] k l) (each k l)
+    go (no l) = rw (List·getD-eq-default (upTo n f) [] {n = k} (omega (arith, upTo-length f n))) none
 
 pub upTo-is : (l : List (List Point)) (f : ℕ → List Point) → length l ≡ 24 → ((k : ℕ) → k < 24 → f k ≡ getD l k []) → upTo 24 f ≡ l
 upTo-is l f e h =
-    ext-getD [] (upTo 24 f) l (upTo-length 24 f ∙ sym e)
-    λ k b. let c : k < 24 = omega (arith, upTo-length 24 f) in upTo-at 24 f k c ∙ h k c
+    ext-getD [] (upTo 24 f) l (upTo-length f 24 ∙ sym e)
+    λ k b. let c : k < 24 = omega (arith, upTo-length f 24) in upTo-at f 24 [] k c ∙ h k c
 
 pub book-block : (R : Records) (n : ℕ) → n < 24 → getD (bookOf R .blocks) n [] ≡ corners (blockWords (R .blocks) n)
 unfolding bookOf
-book-block R n h = upTo-at 24 (λ k. corners (blockWords (R .blocks) k)) n h
+book-block R n h = upTo-at (λ k. corners (blockWords (R .blocks) k)) 24 [] n h
 
 pub book-run : (R : Records) (m : ℕ) → m < 24 → getD (bookOf R .runs) m [] ≡ placesFrom (runWords (R .runs) m) 1 (2 * word (runWords (R .runs) m) 0)
 unfolding bookOf
-book-run R m h = upTo-at 24 (λ k. placesFrom (runWords (R .runs) k) 1 (2 * word (runWords (R .runs) k) 0)) m h
+book-run R m h = upTo-at (λ k. placesFrom (runWords (R .runs) k) 1 (2 * word (runWords (R .runs) k) 0)) 24 [] m h
 
 pub book-figure : (R : Records) → bookOf R .figure ≡ figureOf (R .runs)
 unfolding bookOf

@@ -8,6 +8,7 @@ use Rattle.geometry.specs.Words.{Point, word}
 use Rattle.tables.specs.Tables.{Records, Tables, pairIndex, records, routeWords, stored, tables}
 use Rattle.visibility.specs.Visibility.{ByPlaces, PairIs}
 use Rattle.routing.specs.Routes.{RouteIs, Routed}
+use Rattle.totals.specs.Totals.{totalsOf}
 use Rattle.book.specs.Book.{Book, Edit, Target, target, theBlock, theFigure, theRun, written}
 use Rattle.book.specs.Drawing.{Drawn, Right}
 use Rattle.book.specs.Edits.{Called, Checked, Edited, Started, bookOf, fitness}
@@ -18,7 +19,7 @@ use Rattle.visibility.proofs.Unique.{blockRedrawn-unique, pair-unique, runRedra
 use Rattle.routing.proofs.Unique.{route-unique, routed-unique}
 
 pub drawn-unique : (b : Book) (T T′ : Tables) → Drawn b T → Drawn b T′ → T ≡ T′
-drawn-unique b T T′ d d′ = λ i. tables (blocks i) (runs i) (pairs i) (routes i)
+drawn-unique b T T′ d d′ = λ i. tables (blocks i) (runs i) (pairs i) (routes i) (totals i)
   where
     blocks : T .blocks ≡ T′ .blocks
     blocks = blocks-ext (T .blocks) (T′ .blocks) (d .sizes .0) (d′ .sizes .0) (λ n l. d .blocks n l ∙ sym (d′ .blocks n l))
@@ -38,26 +39,31 @@ drawn-unique b T T′ d d′ = λ i. tables (blocks i) (runs i) (pairs i) (route
         (λ m l. route-unique (records T′) (ByPlaces (records T′)) m
         (subst (λ (R : Records). RouteIs R (ByPlaces R) m (routeWords (T .routes) m)) same (d .right .routes m l)) (d′ .right .routes m l))
 
+    totals : T .totals ≡ T′ .totals
+    totals = d .right .totals ∙ (λ i. totalsOf (pairs i) (routes i)) ∙ sym (d′ .right .totals)
+
 -- What a call answers and leaves is determined, over any tables.
 
--- tables with the same records are the same where the pairs are, since the routes follow
+-- tables with the same records are the same where the pairs are, since the routes follow, and the totals
 tables-same : (T T′ : Tables) → T .blocks ≡ T′ .blocks → T .runs ≡ T′ .runs → (records T ≡ records T′ → T .pairs ≡ T′ .pairs)
-    → Routed (records T) (T .pairs) (T .routes) → Routed (records T′) (T′ .pairs) (T′ .routes) → T ≡ T′
-tables-same T T′ b r p q q′ =
+    → Routed (records T) (T .pairs) (T .routes) → Routed (records T′) (T′ .pairs) (T′ .routes)
+    → T .totals ≡ totalsOf (T .pairs) (T .routes) → T′ .totals ≡ totalsOf (T′ .pairs) (T′ .routes) → T ≡ T′
+tables-same T T′ b r p q q′ t t′ =
     let s : records T ≡ records T′ = λ i. stored (b i) (r i) in
     let e : T .pairs ≡ T′ .pairs = p s in
     let f : T .routes ≡ T′ .routes = routed-unique (records T′) (T′ .pairs) (T .routes) (T′ .routes) (rw (s, e) at q) q′ in
-    λ i. tables (b i) (r i) (e i) (f i)
+    let g : T .totals ≡ T′ .totals = t ∙ (λ i. totalsOf (e i) (f i)) ∙ sym t′ in
+    λ i. tables (b i) (r i) (e i) (f i) (g i)
 
 edited-unique : (pl : Target) (T : Tables) (ps : List Point) (T₁ T₂ : Tables) → Edited pl T ps T₁ → Edited pl T ps T₂ → T₁ ≡ T₂
 edited-unique (theBlock n) T ps T₁ T₂ e f =
     tables-same T₁ T₂ (e .blocks ∙ sym (f .blocks)) (e .runs ∙ sym (f .runs))
-    (λ s. blockRedrawn-unique (records T₂) n (T .pairs) (T₁ .pairs) (T₂ .pairs) (rw s at (e .pairs)) (f .pairs)) (e .routes) (f .routes)
+    (λ s. blockRedrawn-unique (records T₂) n (T .pairs) (T₁ .pairs) (T₂ .pairs) (rw s at (e .pairs)) (f .pairs)) (e .routes) (f .routes) (e .totals) (f .totals)
 edited-unique (theRun m) T ps T₁ T₂ e f =
     tables-same T₁ T₂ (e .blocks ∙ sym (f .blocks)) (e .runs ∙ sym (f .runs))
-    (λ s. runRedrawn-unique (records T₂) m (T .pairs) (T₁ .pairs) (T₂ .pairs) (rw s at (e .pairs)) (f .pairs)) (e .routes) (f .routes)
+    (λ s. runRedrawn-unique (records T₂) m (T .pairs) (T₁ .pairs) (T₂ .pairs) (rw s at (e .pairs)) (f .pairs)) (e .routes) (f .routes) (e .totals) (f .totals)
 edited-unique (theFigure k) T ps T₁ T₂ e f =
-    tables-same T₁ T₂ (e .blocks ∙ sym (f .blocks)) (e .runs ∙ sym (f .runs)) (λ s. e .pairs ∙ sym (f .pairs)) (rw (e .pairs) (e .routes)) (rw (f .pairs) (f .routes))
+    tables-same T₁ T₂ (e .blocks ∙ sym (f .blocks)) (e .runs ∙ sym (f .runs)) (λ s. e .pairs ∙ sym (f .pairs)) (rw (e .pairs) (e .routes)) (rw (f .pairs) (f .routes)) (rw (e .pairs) (e .totals)) (rw (f .pairs) (f .totals))
 
 pub called-unique : (e : Edit) (T : Tables) (r r′ : ℕ) (T₁ T₂ : Tables) → Called e T r T₁ → Called e T r′ T₂ → (r ≡ r′) × (T₁ ≡ T₂)
 called-unique e T r r′ T₁ T₂ c d = (same-answer, go (ℕ-discrete r 0))

@@ -1,4 +1,4 @@
--- The fresh drawing of a book. Rules 22 and 25.
+-- The fresh drawing of a book. Rules 22 and 25, and 44 for the totals.
 use mathlib.Core.Path.{_≡_}
 use mathlib.Core.List.{[]}
 use Prim.Native.Nat.{ℕ, _<_}
@@ -8,12 +8,14 @@ use Rattle.tables.specs.Tables.{Tables, records, runWords, figureOf, routeWords
 use Rattle.tables.specs.Written.{blockRecord, runRecord}
 use Rattle.visibility.specs.Visibility.{ByPlaces, PairsRight}
 use Rattle.routing.specs.Routes.{RouteIs}
+use Rattle.totals.specs.Totals.{totalsOf}
 use Rattle.book.specs.Book.{Book}
 
--- every byte of pairs and routes is what the stored blocks and runs require
+-- every byte of pairs, routes and totals is what the stored blocks and runs require
 pub record Right (T : Tables) : Type 0 where
   pub pairs : PairsRight (records T) (T .pairs)
   pub routes : (m : ℕ) → m < 24 → RouteIs (records T) (ByPlaces (records T)) m (routeWords (T .routes) m)
+  pub totals : T .totals ≡ totalsOf (T .pairs) (T .routes)
 
 -- the tables are the fresh drawing of the book
 pub record Drawn (b : Book) (T : Tables) : Type 0 where

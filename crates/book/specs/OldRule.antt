@@ -9,6 +9,7 @@ use Rattle.tables.specs.Tables.{Records, Tables, records, placeOf, pairIndex, r
 use Rattle.tables.specs.Written.{blockRecord, runRecord}
 use Rattle.visibility.specs.Visibility.{Hides, bothPresent, Unhidden}
 use Rattle.routing.specs.Routes.{RouteIs}
+use Rattle.totals.specs.Totals.{totalsOf}
 use Rattle.book.specs.Book.{Book}
 
 -- the straight between two marks was clear
@@ -21,10 +22,11 @@ pub data PairWas (R : Records) (i j b : ℕ) : Type 0 where
   clear : WasClear R i j → b ≡ 254 → PairWas R i j b
   hidden : bothPresent R i j ≡ true → b < 24 → Hides R b i j → ((n : ℕ) → n < b → Hides R n i j → ⊥) → PairWas R i j b
 
--- every byte of pairs and routes was what the stored blocks and runs required
+-- every byte of pairs, routes and totals was what the stored blocks and runs required
 pub record WasRight (T : Tables) : Type 0 where
   pub pairs : (i j : ℕ) → i < j → j < 240 → PairWas (records T) i j (word (T .pairs) (pairIndex i j))
   pub routes : (m : ℕ) → m < 24 → RouteIs (records T) (WasClear (records T)) m (routeWords (T .routes) m)
+  pub totals : T .totals ≡ totalsOf (T .pairs) (T .routes)
 
 -- the tables were the fresh drawing of the book
 pub record WasDrawn (b : Book) (T : Tables) : Type 0 where

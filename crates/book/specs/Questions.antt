@@ -19,9 +19,11 @@ unfoldable pub firstNo : List Question → ℕ
 firstNo [] = 0
 firstNo (q ∷ qs) = cond (q .passes) (firstNo qs) (q .number)
 
--- 1: the four tables are exactly as long as stated
+-- 1: the five tables are exactly as long as stated
 unfoldable pub lengthsRight : Tables → Bool
-lengthsRight T = eqb (length (T .blocks)) 408 && eqb (length (T .runs)) 121 && eqb (length (T .pairs)) 28680 && eqb (length (T .routes)) 4728
+lengthsRight T =
+    eqb (length (T .blocks)) 408 && eqb (length (T .runs)) 121 && eqb (length (T .pairs)) 28680 && eqb (length (T .routes)) 4728
+    && eqb (length (T .totals)) 25
 
 -- 3: the number is below 24
 abbrev pub numberRight : ℕ → Bool

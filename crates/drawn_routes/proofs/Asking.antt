@@ -53,10 +53,10 @@ module _ (T : Tables) (m v : ℕ) (e : v ≡ named T m) where
         let f : early true T m ≡ 0 = rw (passed .0, passed .1, passed .2, lt-ltb 0 (word (T .runs) (5 * m)) (omega arith)) in
         record { refused = λ n. absurd (n f); right = λ n. c .fit (rw (passed .0, passed .1)) }
 
-pub in-runs : (b r p s : List ℕ) (m v : ℕ) → v ≡ named (tables b r p s) m → v ≡ 0 → 5 * m < length r
-in-runs b r p s m v e z =
-    let h = passed (tables b r p s) m v e z in
-    omega (arith, sized-of (tables b r p s) (h .0) .runs, ltb-true m 24 (h .2))
+pub in-runs : (b r p s t : List ℕ) (m v : ℕ) → v ≡ named (tables b r p s t) m → v ≡ 0 → 5 * m < length r
+in-runs b r p s t m v e z =
+    let h = passed (tables b r p s t) m v e z in
+    omega (arith, sized-of (tables b r p s t) (h .0) .runs, ltb-true m 24 (h .2))
 
 -- what a call that is answered 0 may use
 pub record Accepted (T : Tables) (m : ℕ) : Type 0 where

@@ -9,8 +9,9 @@ use lib.Ieee.{Float}
 use lib.ListN.{length, getD, take, drop, List·getD-append}
 use Rattle.geometry.specs.Words.{word}
 use Rattle.paths.specs.Path.{Chain, last, more}
-use Rattle.tables.specs.Tables.{Records, Tables, tables, stored, routeWords, secondEnd}
+use Rattle.tables.specs.Tables.{Records, Tables, tables, stored, secondEnd}
 use Rattle.routing.specs.Routes.{RouteIs, noRun, found, noWay}
+use Rattle.routing.proofs.Written.{lent-part}
 use Rattle.routing.proofs.Fits.{route-short, record-length}
 use Rattle.search.specs.Network.{graph}
 use Rattle.search.proofs.Network.{corner-below}
@@ -48,9 +49,6 @@ module _ (R : Records) (Clear : ℕ → ℕ → Type 0) (m : ℕ) (l : m < 24) (
   pub drawable : {ws : List ℕ} → RouteIs R Clear m ws → Drawable R ws
   drawable r = record { blocks = eb; runs = er; sized = record-length R Clear m r; count = counted r; marks = marked r }
 
-pub part-is : (t : List ℕ) (m : ℕ) → take (197 * m + 197 - 197 * m) (drop (197 * m) t) ≡ routeWords t m
-part-is t m = let e : 197 * m + 197 - 197 * m ≡ 197 = omega arith in ap (λ (k : ℕ). take k (drop (197 * m) t)) e
-
 pub drawn-zero : {p : Shape} {r : DrawnPiece} → Shows p r → numberOf r ≡ 0
 drawn-zero showsNothing = refl
 drawn-zero (showsStraight x y) = refl
@@ -67,11 +65,11 @@ bent-zero p d xs x = ap shownNumber (x .answer) ∙ shown-zero p
 pub curved-lists : (T : Tables) (m k : ℕ) (xs : List Float) → (length xs ≡ 18 → ⊥) → Curved T m k xs (no 1) xs
 curved-lists T m k xs n = record { asked = asked-lists _ T m (ne-eqb _ _ n); refused = λ z. refl; done = λ z. absurd (omega arith) }
 
-module _ (b r p s : List ℕ) (m v : ℕ) (a : Asked true (tables b r p s) m v) where
-  pub curved-refused : (k : ℕ) (xs : List Float) → length xs ≡ 18 → (v ≡ 0 → ⊥) → Curved (tables b r p s) m k xs (no v) xs
+module _ (b r p s t : List ℕ) (m v : ℕ) (a : Asked true (tables b r p s t) m v) where
+  pub curved-refused : (k : ℕ) (xs : List Float) → length xs ≡ 18 → (v ≡ 0 → ⊥) → Curved (tables b r p s t) m k xs (no v) xs
   curved-refused k xs e n = record { asked = asked-own _ _ m v (eq-eqb _ _ e) a; refused = λ z. refl; done = λ z. absurd (n z) }
 
-  pub piece-refused : (k : ℕ) → (v ≡ 0 → ⊥) → Pieced (tables b r p s) m k (Refused v)
+  pub piece-refused : (k : ℕ) → (v ≡ 0 → ⊥) → Pieced (tables b r p s t) m k (Refused v)
   piece-refused k n = record { asked = a; drawn = λ z. absurd (n z) }
 
   module _ (z : v ≡ 0) where
@@ -81,21 +79,21 @@ module _ (b r p s : List ℕ) (m v : ℕ) (a : Asked true (tables b r p s) m v) 
     pub part-drawable : Drawable (stored b r) (take (197 * m + 197 - 197 * m) (drop (197 * m) s))
     part-drawable =
         let g = accepted true _ m v a z in
-        rw (part-is s m) (drawable (stored b r) _ m (g .below) (g .sized .blocks) (g .sized .runs) (g .right .routes m (g .below)))
+        rw (lent-part s m) (drawable (stored b r) _ m (g .below) (g .sized .blocks) (g .sized .runs) (g .right .routes m (g .below)))
 
-    pub piece-drawn : (k : ℕ) (d : DrawnPiece) → Shows (pieceAt (stored b r) (take (197 * m + 197 - 197 * m) (drop (197 * m) s)) k) d → Pieced (tables b r p s) m k d
+    pub piece-drawn : (k : ℕ) (d : DrawnPiece) → Shows (pieceAt (stored b r) (take (197 * m + 197 - 197 * m) (drop (197 * m) s)) k) d → Pieced (tables b r p s t) m k d
     piece-drawn k d x =
         record {
-          asked = subst (λ (n : ℕ). Asked true (tables b r p s) m n) (z ∙ sym (drawn-zero x)) a;
-          drawn = λ n. rw (part-is s m) at x;
+          asked = subst (λ (n : ℕ). Asked true (tables b r p s t) m n) (z ∙ sym (drawn-zero x)) a;
+          drawn = λ n. rw (lent-part s m) at x;
         }
 
     pub curved-done : (k : ℕ) (d : Shown) (xs ys : List Float) → length xs ≡ 18 → Bent (pieceAt (stored b r) (take (197 * m + 197 - 197 * m) (drop (197 * m) s)) k) d ys
-        → Curved (tables b r p s) m k xs d ys
+        → Curved (tables b r p s t) m k xs d ys
     curved-done k d xs ys e x =
         let f = bent-zero _ d ys x in
         record {
-          asked = asked-own _ _ m _ (eq-eqb _ _ e) (subst (λ (n : ℕ). Asked true (tables b r p s) m n) (z ∙ sym f) a);
+          asked = asked-own _ _ m _ (eq-eqb _ _ e) (subst (λ (n : ℕ). Asked true (tables b r p s t) m n) (z ∙ sym f) a);
           refused = λ n. absurd (n f);
-          done = λ n. rw (part-is s m) at x;
+          done = λ n. rw (lent-part s m) at x;
         }

@@ -21,10 +21,17 @@ use pieces::put;
 use yard::check;
 
 // Questions 1, 2, 3, 5 and 11.
-fn asked(blocks: &[u16], runs: &[u16], pairs: &[u8], routes: &[u32], number: u32) -> u32
-    ensures { λ r. ⌜ Asked true (tables (now (blocks .entry)) (now (runs .entry)) (now (pairs .entry)) (now (routes .entry))) number r ⌝ }
+fn asked(
+    blocks: &[u16],
+    runs: &[u16],
+    pairs: &[u8],
+    routes: &[u32],
+    totals: &[u32],
+    number: u32,
+) -> u32
+    ensures { λ r. ⌜ Asked true (tables (now (blocks .entry)) (now (runs .entry)) (now (pairs .entry)) (now (routes .entry)) (now (totals .entry))) number r ⌝ }
 {
-    let v = named(blocks, runs, pairs, routes, number);
+    let v = named(blocks, runs, pairs, routes, totals, number);
     if v != 0 {
         return v;
     }
@@ -32,7 +39,7 @@ fn asked(blocks: &[u16], runs: &[u16], pairs: &[u8], routes: &[u32], number: u32
     if runs[5 * m] == 0 {
         return 5;
     }
-    let verdict = check(blocks, runs, pairs, routes);
+    let verdict = check(blocks, runs, pairs, routes, totals);
     verdict
 }
 
@@ -42,12 +49,13 @@ pub fn piece(
     runs: &[u16],
     pairs: &[u8],
     routes: &[u32],
+    totals: &[u32],
     number: u32,
     k: u32,
 ) -> DrawnPiece
-    ensures { λ r. ⌜ Pieced (tables (now (blocks .entry)) (now (runs .entry)) (now (pairs .entry)) (now (routes .entry))) number k r ⌝ }
+    ensures { λ r. ⌜ Pieced (tables (now (blocks .entry)) (now (runs .entry)) (now (pairs .entry)) (now (routes .entry)) (now (totals .entry))) number k r ⌝ }
 {
-    let v = asked(blocks, runs, pairs, routes, number);
+    let v = asked(blocks, runs, pairs, routes, totals, number);
     if v != 0 {
         return DrawnPiece::Refused(v);
     }
@@ -62,17 +70,18 @@ pub fn bend_points(
     runs: &[u16],
     pairs: &[u8],
     routes: &[u32],
+    totals: &[u32],
     number: u32,
     k: u32,
     points: &mut [f64],
 ) -> Shown
-    ensures { λ r. ⌜ Curved (tables (now (blocks .entry)) (now (runs .entry)) (now (pairs .entry)) (now (routes .entry))) number k
+    ensures { λ r. ⌜ Curved (tables (now (blocks .entry)) (now (runs .entry)) (now (pairs .entry)) (now (routes .entry)) (now (totals .entry))) number k
         (now (points .entry)) r (now (points .exit)) ⌝ }
 {
     if points.len() != 18 {
         return Shown::Refused(1);
     }
-    let v = asked(blocks, runs, pairs, routes, number);
+    let v = asked(blocks, runs, pairs, routes, totals, number);
     if v != 0 {
         return Shown::Refused(v);
     }
@@ -109,12 +118,13 @@ pub fn fill_piece(
     runs: &[u16],
     pairs: &[u8],
     routes: &[u32],
+    totals: &[u32],
     number: u32,
     k: u32,
     kind: &mut [u32],
     points: &mut [f64],
 ) -> u32
-    ensures { λ r. ⌜ PieceFilled (tables (now (blocks .entry)) (now (runs .entry)) (now (pairs .entry)) (now (routes .entry))) number k
+    ensures { λ r. ⌜ PieceFilled (tables (now (blocks .entry)) (now (runs .entry)) (now (pairs .entry)) (now (routes .entry)) (now (totals .entry))) number k
         (now (kind .entry)) (now (points .entry)) r (now (kind .exit)) (now (points .exit)) ⌝ }
 {
     if kind.len() != 1 {
@@ -123,7 +133,7 @@ pub fn fill_piece(
     if points.len() != 6 {
         return 1;
     }
-    match piece(blocks, runs, pairs, routes, number, k) {
+    match piece(blocks, runs, pairs, routes, totals, number, k) {
         DrawnPiece::Refused(v) => v,
         DrawnPiece::Nothing => {
             let o = nowhere();
@@ -150,18 +160,19 @@ pub fn fill_bend(
     runs: &[u16],
     pairs: &[u8],
     routes: &[u32],
+    totals: &[u32],
     number: u32,
     k: u32,
     kind: &mut [u32],
     points: &mut [f64],
 ) -> u32
-    ensures { λ r. ⌜ BendFilled (tables (now (blocks .entry)) (now (runs .entry)) (now (pairs .entry)) (now (routes .entry))) number k
+    ensures { λ r. ⌜ BendFilled (tables (now (blocks .entry)) (now (runs .entry)) (now (pairs .entry)) (now (routes .entry)) (now (totals .entry))) number k
         (now (kind .entry)) (now (points .entry)) r (now (kind .exit)) (now (points .exit)) ⌝ }
 {
     if kind.len() != 1 {
         return 1;
     }
-    match bend_points(blocks, runs, pairs, routes, number, k, points) {
+    match bend_points(blocks, runs, pairs, routes, totals, number, k, points) {
         Shown::Refused(v) => v,
         Shown::Nothing => {
             put_kind(kind, 0);

@@ -49,16 +49,17 @@ pub fn add_block_at(
     runs: &mut [u16],
     pairs: &mut [u8],
     routes: &mut [u32],
+    totals: &mut [u32],
     number: u32,
 ) -> u32
     requires { ⌜ (at + 1 + 4 * byte (now file) at ≤ length (now file)) × (length (now file) ≤ 8192) ⌝ }
     ensures { λ r. ⌜ Called (addBlock number (fieldsFrom (now (file .entry)) (at + 1) (2 * byte (now (file .entry)) at)))
-        (tables (now (blocks .entry)) (now (runs .entry)) (now (pairs .entry)) (now (routes .entry)))
-        r (tables (now (blocks .exit)) (now (runs .exit)) (now (pairs .exit)) (now (routes .exit))) ⌝ }
+        (tables (now (blocks .entry)) (now (runs .entry)) (now (pairs .entry)) (now (routes .entry)) (now (totals .entry)))
+        r (tables (now (blocks .exit)) (now (runs .exit)) (now (pairs .exit)) (now (routes .exit)) (now (totals .exit))) ⌝ }
 {
     let n = 2 * (file[at] as usize);
     let words = words_from(file, at + 1, n);
-    add_block(blocks, runs, pairs, routes, number, &words[..n])
+    add_block(blocks, runs, pairs, routes, totals, number, &words[..n])
 }
 
 // Moves a block by the displacement that stands at a position.
@@ -69,12 +70,13 @@ pub fn move_block_at(
     runs: &mut [u16],
     pairs: &mut [u8],
     routes: &mut [u32],
+    totals: &mut [u32],
     number: u32,
 ) -> u32
     requires { ⌜ at + 4 ≤ length (now file) ⌝ }
     ensures { λ r. ⌜ Called (moveBlock number (displacement (field (now (file .entry)) at)) (displacement (field (now (file .entry)) (at + 2))))
-        (tables (now (blocks .entry)) (now (runs .entry)) (now (pairs .entry)) (now (routes .entry)))
-        r (tables (now (blocks .exit)) (now (runs .exit)) (now (pairs .exit)) (now (routes .exit))) ⌝ }
+        (tables (now (blocks .entry)) (now (runs .entry)) (now (pairs .entry)) (now (routes .entry)) (now (totals .entry)))
+        r (tables (now (blocks .exit)) (now (runs .exit)) (now (pairs .exit)) (now (routes .exit)) (now (totals .exit))) ⌝ }
 {
     let east = field(file, at);
     let north = field(file, at + 2);
@@ -83,6 +85,7 @@ pub fn move_block_at(
         runs,
         pairs,
         routes,
+        totals,
         number,
         displacement(east),
         displacement(north),
@@ -97,16 +100,17 @@ pub fn add_run_at(
     runs: &mut [u16],
     pairs: &mut [u8],
     routes: &mut [u32],
+    totals: &mut [u32],
     number: u32,
 ) -> u32
     requires { ⌜ at + 8 ≤ length (now file) ⌝ }
     ensures { λ r. ⌜ Called (addRun number (placeIn (now (file .entry)) at) (placeIn (now (file .entry)) (at + 4)))
-        (tables (now (blocks .entry)) (now (runs .entry)) (now (pairs .entry)) (now (routes .entry)))
-        r (tables (now (blocks .exit)) (now (runs .exit)) (now (pairs .exit)) (now (routes .exit))) ⌝ }
+        (tables (now (blocks .entry)) (now (runs .entry)) (now (pairs .entry)) (now (routes .entry)) (now (totals .entry)))
+        r (tables (now (blocks .exit)) (now (runs .exit)) (now (pairs .exit)) (now (routes .exit)) (now (totals .exit))) ⌝ }
 {
     let first = place_in(file, at);
     let second = place_in(file, at + 4);
-    add_run(blocks, runs, pairs, routes, number, first, second)
+    add_run(blocks, runs, pairs, routes, totals, number, first, second)
 }
 
 // Moves a run to the two places that stand at a position.
@@ -117,16 +121,17 @@ pub fn move_run_at(
     runs: &mut [u16],
     pairs: &mut [u8],
     routes: &mut [u32],
+    totals: &mut [u32],
     number: u32,
 ) -> u32
     requires { ⌜ at + 8 ≤ length (now file) ⌝ }
     ensures { λ r. ⌜ Called (moveRun number (placeIn (now (file .entry)) at) (placeIn (now (file .entry)) (at + 4)))
-        (tables (now (blocks .entry)) (now (runs .entry)) (now (pairs .entry)) (now (routes .entry)))
-        r (tables (now (blocks .exit)) (now (runs .exit)) (now (pairs .exit)) (now (routes .exit))) ⌝ }
+        (tables (now (blocks .entry)) (now (runs .entry)) (now (pairs .entry)) (now (routes .entry)) (now (totals .entry)))
+        r (tables (now (blocks .exit)) (now (runs .exit)) (now (pairs .exit)) (now (routes .exit)) (now (totals .exit))) ⌝ }
 {
     let first = place_in(file, at);
     let second = place_in(file, at + 4);
-    move_run(blocks, runs, pairs, routes, number, first, second)
+    move_run(blocks, runs, pairs, routes, totals, number, first, second)
 }
 
 // Sets the figure that stands at a position.
@@ -137,12 +142,13 @@ pub fn set_charge_at(
     runs: &mut [u16],
     pairs: &mut [u8],
     routes: &mut [u32],
+    totals: &mut [u32],
 ) -> u32
     requires { ⌜ at + 2 ≤ length (now file) ⌝ }
     ensures { λ r. ⌜ Called (setCharge (field (now (file .entry)) at))
-        (tables (now (blocks .entry)) (now (runs .entry)) (now (pairs .entry)) (now (routes .entry)))
-        r (tables (now (blocks .exit)) (now (runs .exit)) (now (pairs .exit)) (now (routes .exit))) ⌝ }
+        (tables (now (blocks .entry)) (now (runs .entry)) (now (pairs .entry)) (now (routes .entry)) (now (totals .entry)))
+        r (tables (now (blocks .exit)) (now (runs .exit)) (now (pairs .exit)) (now (routes .exit)) (now (totals .exit))) ⌝ }
 {
     let figure = field(file, at);
-    set_charge(blocks, runs, pairs, routes, figure)
+    set_charge(blocks, runs, pairs, routes, totals, figure)
 }

@@ -3,3 +3,4 @@ pub mod Below
 pub mod Telling
 pub mod Fills
 pub mod Copies
+pub mod Values

@@ -45,13 +45,14 @@ fn call_edits(
     runs: &mut [u16],
     pairs: &mut [u8],
     routes: &mut [u32],
+    totals: &mut [u32],
     answers: &mut [u32],
 ) -> Outcome
     requires { ⌜ 4096 ≤ length (now answers) ⌝ }
     ensures { λ r. ⌜ EditsCalled (now (file .entry))
-        (tables (now (blocks .entry)) (now (runs .entry)) (now (pairs .entry)) (now (routes .entry)))
+        (tables (now (blocks .entry)) (now (runs .entry)) (now (pairs .entry)) (now (routes .entry)) (now (totals .entry)))
         (now (answers .entry)) (now (answers .exit)) (r .count) (r .number) (r .at)
-        (tables (now (blocks .exit)) (now (runs .exit)) (now (pairs .exit)) (now (routes .exit))) ⌝ }
+        (tables (now (blocks .exit)) (now (runs .exit)) (now (pairs .exit)) (now (routes .exit)) (now (totals .exit))) ⌝ }
 {
     let mut count: usize = 0;
     let mut at: usize = 5;
@@ -65,7 +66,7 @@ fn call_edits(
                 at: stop_position(number, at),
             };
         };
-        let answer = apply(file, item, blocks, runs, pairs, routes);
+        let answer = apply(file, item, blocks, runs, pairs, routes, totals);
         answers[count] = answer;
         count += 1;
         at = item.next;
@@ -79,12 +80,13 @@ pub fn replay(
     runs: &mut [u16],
     pairs: &mut [u8],
     routes: &mut [u32],
+    totals: &mut [u32],
     answers: &mut [u32],
 ) -> Outcome
     ensures { λ r. ⌜ Replayed (now (file .entry))
-        (tables (now (blocks .entry)) (now (runs .entry)) (now (pairs .entry)) (now (routes .entry)))
+        (tables (now (blocks .entry)) (now (runs .entry)) (now (pairs .entry)) (now (routes .entry)) (now (totals .entry)))
         (now (answers .entry)) (now (answers .exit)) (r .count) (r .number) (r .at)
-        (tables (now (blocks .exit)) (now (runs .exit)) (now (pairs .exit)) (now (routes .exit))) ⌝ }
+        (tables (now (blocks .exit)) (now (runs .exit)) (now (pairs .exit)) (now (routes .exit)) (now (totals .exit))) ⌝ }
 {
     if answers.len() < 4096 {
         return Outcome {
@@ -93,5 +95,5 @@ pub fn replay(
             at: 0,
         };
     }
-    call_edits(file, blocks, runs, pairs, routes, answers)
+    call_edits(file, blocks, runs, pairs, routes, totals, answers)
 }

@@ -43,6 +43,9 @@ module _ (R : Records) (Clear : ℕ → ℕ → Type 0) (m : ℕ) (part : List �
   found-record key n f l h w = rw (w .written, ← (w .length-is), ← (w .count)) (found (present-flag f l h) (w .marks) (w .route))
 
 -- the part that is lent for one record
+pub lent-part : (routes : List ℕ) (m : ℕ) → take (197 * m + 197 - 197 * m) (drop (197 * m) routes) ≡ routeWords routes m
+lent-part routes m = let e : 197 * m + 197 - 197 * m ≡ 197 = omega arith in ap (λ (k : ℕ). take k (drop (197 * m) routes)) e
+
 pub lent-length : (routes : List ℕ) (m : ℕ) → length routes ≡ 4728 → m < 24 → length (take (197 * m + 197 - 197 * m) (drop (197 * m) routes)) ≡ 197
 lent-length routes m e l = simp (length-take, length-drop) (omega arith)
 

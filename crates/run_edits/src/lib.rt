@@ -1,4 +1,4 @@
-// The three edits of runs, over four tables that the caller lends.
+// The three edits of runs, over five tables that the caller lends.
 // Each answers the number of the first question that is answered no, and then changes no table; 0 means done.
 ghost use mathlib.Core.Path.{_≡_};
 ghost use Prim.Native.Nat.{_<_};
@@ -15,24 +15,27 @@ use geometry::Place;
 use lists::put_words;
 use redrawing::redraw_run;
 use routing::all_routes;
+use totals::write_totals;
 
-// Run m's record is replaced; pairs and routes follow.
+// Run m's record is replaced; pairs, routes and totals follow.
 fn replace_run(
     blocks: &[u16],
     runs: &mut [u16],
     pairs: &mut [u8],
     routes: &mut [u32],
+    totals: &mut [u32],
     m: usize,
     words: &[u16],
 )
     requires fit { ⌜ (Fit (stored (now blocks) (now runs))) × (BoundedRun (now words)) × (m < 24) ⌝ }
-    requires sizes { ⌜ (length (now pairs) ≡ 28680) × (length (now routes) ≡ 4728) ⌝ }
-    ensures { λ r. ⌜ RunEdited (tables (now (blocks .entry)) (now (runs .entry)) (now (pairs .entry)) (now (routes .entry)))
-        m (now (words .entry)) (tables (now (blocks .entry)) (now (runs .exit)) (now (pairs .exit)) (now (routes .exit))) ⌝ }
+    requires sizes { ⌜ (length (now pairs) ≡ 28680) × (length (now routes) ≡ 4728) × (length (now totals) ≡ 25) ⌝ }
+    ensures { λ r. ⌜ RunEdited (tables (now (blocks .entry)) (now (runs .entry)) (now (pairs .entry)) (now (routes .entry)) (now (totals .entry)))
+        m (now (words .entry)) (tables (now (blocks .entry)) (now (runs .exit)) (now (pairs .exit)) (now (routes .exit)) (now (totals .exit))) ⌝ }
 {
     put_words(runs, 5 * m, words);
     redraw_run(blocks, runs, pairs, m);
     all_routes(blocks, runs, pairs, routes);
+    write_totals(pairs, routes, totals);
 }
 
 pub fn add_run(
@@ -40,20 +43,21 @@ pub fn add_run(
     runs: &mut [u16],
     pairs: &mut [u8],
     routes: &mut [u32],
+    totals: &mut [u32],
     number: u32,
     first: Place,
     second: Place,
 ) -> u32
     ensures { λ r. ⌜ Called (addRun number (pointOf first) (pointOf second))
-        (tables (now (blocks .entry)) (now (runs .entry)) (now (pairs .entry)) (now (routes .entry)))
-        r (tables (now (blocks .exit)) (now (runs .exit)) (now (pairs .exit)) (now (routes .exit))) ⌝ }
+        (tables (now (blocks .entry)) (now (runs .entry)) (now (pairs .entry)) (now (routes .entry)) (now (totals .entry)))
+        r (tables (now (blocks .exit)) (now (runs .exit)) (now (pairs .exit)) (now (routes .exit)) (now (totals .exit))) ⌝ }
 {
-    let v = add_run_answer(blocks, runs, pairs, routes, number, first, second);
+    let v = add_run_answer(blocks, runs, pairs, routes, totals, number, first, second);
     if v != 0 {
         return v;
     }
     let words = [1, first.east, first.north, second.east, second.north];
-    replace_run(blocks, runs, pairs, routes, number as usize, &words);
+    replace_run(blocks, runs, pairs, routes, totals, number as usize, &words);
     0
 }
 
@@ -62,18 +66,19 @@ pub fn remove_run(
     runs: &mut [u16],
     pairs: &mut [u8],
     routes: &mut [u32],
+    totals: &mut [u32],
     number: u32,
 ) -> u32
     ensures { λ r. ⌜ Called (removeRun number)
-        (tables (now (blocks .entry)) (now (runs .entry)) (now (pairs .entry)) (now (routes .entry)))
-        r (tables (now (blocks .exit)) (now (runs .exit)) (now (pairs .exit)) (now (routes .exit))) ⌝ }
+        (tables (now (blocks .entry)) (now (runs .entry)) (now (pairs .entry)) (now (routes .entry)) (now (totals .entry)))
+        r (tables (now (blocks .exit)) (now (runs .exit)) (now (pairs .exit)) (now (routes .exit)) (now (totals .exit))) ⌝ }
 {
-    let v = remove_run_answer(blocks, runs, pairs, routes, number);
+    let v = remove_run_answer(blocks, runs, pairs, routes, totals, number);
     if v != 0 {
         return v;
     }
     let words = [0u16; 5];
-    replace_run(blocks, runs, pairs, routes, number as usize, &words);
+    replace_run(blocks, runs, pairs, routes, totals, number as usize, &words);
     0
 }
 
@@ -83,19 +88,20 @@ pub fn move_run(
     runs: &mut [u16],
     pairs: &mut [u8],
     routes: &mut [u32],
+    totals: &mut [u32],
     number: u32,
     first: Place,
     second: Place,
 ) -> u32
     ensures { λ r. ⌜ Called (moveRun number (pointOf first) (pointOf second))
-        (tables (now (blocks .entry)) (now (runs .entry)) (now (pairs .entry)) (now (routes .entry)))
-        r (tables (now (blocks .exit)) (now (runs .exit)) (now (pairs .exit)) (now (routes .exit))) ⌝ }
+        (tables (now (blocks .entry)) (now (runs .entry)) (now (pairs .entry)) (now (routes .entry)) (now (totals .entry)))
+        r (tables (now (blocks .exit)) (now (runs .exit)) (now (pairs .exit)) (now (routes .exit)) (now (totals .exit))) ⌝ }
 {
-    let v = move_run_answer(blocks, runs, pairs, routes, number, first, second);
+    let v = move_run_answer(blocks, runs, pairs, routes, totals, number, first, second);
     if v != 0 {
         return v;
     }
     let words = [1, first.east, first.north, second.east, second.north];
-    replace_run(blocks, runs, pairs, routes, number as usize, &words);
+    replace_run(blocks, runs, pairs, routes, totals, number as usize, &words);
     0
 }

@@ -1,4 +1,4 @@
--- The four tables, their records and marks. Rules 2 to 6.
+-- The five tables, their records and marks. Rules 2 to 6, and 44 for the totals.
 use mathlib.Core.List.{List}
 use mathlib.Core.Bool.{Bool, _&&_, _||_, cond}
 use Prim.Native.Nat.{ℕ, _+_, _*_, _-_, _/_, _%_, _<_, _≤_}
@@ -11,9 +11,10 @@ pub record Tables : Type 0 where
   pub runs : List ℕ
   pub pairs : List ℕ
   pub routes : List ℕ
+  pub totals : List ℕ
 
-abbrev pub tables : List ℕ → List ℕ → List ℕ → List ℕ → Tables
-tables b r p s = record { blocks = b; runs = r; pairs = p; routes = s }
+abbrev pub tables : List ℕ → List ℕ → List ℕ → List ℕ → List ℕ → Tables
+tables b r p s t = record { blocks = b; runs = r; pairs = p; routes = s; totals = t }
 
 -- the stored records, which alone say where each mark is and what is hidden
 pub record Records : Type 0 where

@@ -20,11 +20,12 @@ pub extern "C" fn yard_start(
     runs: &mut [u16],
     pairs: &mut [u8],
     routes: &mut [u32],
+    totals: &mut [u32],
 ) -> u32
-    ensures { λ r. ⌜ Started (tables (now (blocks .entry)) (now (runs .entry)) (now (pairs .entry)) (now (routes .entry)))
-        r (tables (now (blocks .exit)) (now (runs .exit)) (now (pairs .exit)) (now (routes .exit))) ⌝ }
+    ensures { λ r. ⌜ Started (tables (now (blocks .entry)) (now (runs .entry)) (now (pairs .entry)) (now (routes .entry)) (now (totals .entry)))
+        r (tables (now (blocks .exit)) (now (runs .exit)) (now (pairs .exit)) (now (routes .exit)) (now (totals .exit))) ⌝ }
 {
-    yard::start(blocks, runs, pairs, routes)
+    yard::start(blocks, runs, pairs, routes, totals)
 }
 
 #[no_mangle]
@@ -33,14 +34,15 @@ pub extern "C" fn yard_add_block(
     runs: &mut [u16],
     pairs: &mut [u8],
     routes: &mut [u32],
+    totals: &mut [u32],
     number: u32,
     corners: &[u16],
 ) -> u32
     ensures { λ r. ⌜ Called (addBlock number (now (corners .entry)))
-        (tables (now (blocks .entry)) (now (runs .entry)) (now (pairs .entry)) (now (routes .entry)))
-        r (tables (now (blocks .exit)) (now (runs .exit)) (now (pairs .exit)) (now (routes .exit))) ⌝ }
+        (tables (now (blocks .entry)) (now (runs .entry)) (now (pairs .entry)) (now (routes .entry)) (now (totals .entry)))
+        r (tables (now (blocks .exit)) (now (runs .exit)) (now (pairs .exit)) (now (routes .exit)) (now (totals .exit))) ⌝ }
 {
-    block_edits::add_block(blocks, runs, pairs, routes, number, corners)
+    block_edits::add_block(blocks, runs, pairs, routes, totals, number, corners)
 }
 
 #[no_mangle]
@@ -49,13 +51,14 @@ pub extern "C" fn yard_remove_block(
     runs: &mut [u16],
     pairs: &mut [u8],
     routes: &mut [u32],
+    totals: &mut [u32],
     number: u32,
 ) -> u32
     ensures { λ r. ⌜ Called (removeBlock number)
-        (tables (now (blocks .entry)) (now (runs .entry)) (now (pairs .entry)) (now (routes .entry)))
-        r (tables (now (blocks .exit)) (now (runs .exit)) (now (pairs .exit)) (now (routes .exit))) ⌝ }
+        (tables (now (blocks .entry)) (now (runs .entry)) (now (pairs .entry)) (now (routes .entry)) (now (totals .entry)))
+        r (tables (now (blocks .exit)) (now (runs .exit)) (now (pairs .exit)) (now (routes .exit)) (now (totals .exit))) ⌝ }
 {
-    block_edits::remove_block(blocks, runs, pairs, routes, number)
+    block_edits::remove_block(blocks, runs, pairs, routes, totals, number)
 }
 
 #[no_mangle]
@@ -64,15 +67,16 @@ pub extern "C" fn yard_move_block(
     runs: &mut [u16],
     pairs: &mut [u8],
     routes: &mut [u32],
+    totals: &mut [u32],
     number: u32,
     east: i16,
     north: i16,
 ) -> u32
     ensures { λ r. ⌜ Called (moveBlock number east north)
-        (tables (now (blocks .entry)) (now (runs .entry)) (now (pairs .entry)) (now (routes .entry)))
-        r (tables (now (blocks .exit)) (now (runs .exit)) (now (pairs .exit)) (now (routes .exit))) ⌝ }
+        (tables (now (blocks .entry)) (now (runs .entry)) (now (pairs .entry)) (now (routes .entry)) (now (totals .entry)))
+        r (tables (now (blocks .exit)) (now (runs .exit)) (now (pairs .exit)) (now (routes .exit)) (now (totals .exit))) ⌝ }
 {
-    block_edits::move_block(blocks, runs, pairs, routes, number, east, north)
+    block_edits::move_block(blocks, runs, pairs, routes, totals, number, east, north)
 }
 
 #[no_mangle]
@@ -81,6 +85,7 @@ pub extern "C" fn yard_add_run(
     runs: &mut [u16],
     pairs: &mut [u8],
     routes: &mut [u32],
+    totals: &mut [u32],
     number: u32,
     first_east: u16,
     first_north: u16,
@@ -88,8 +93,8 @@ pub extern "C" fn yard_add_run(
     second_north: u16,
 ) -> u32
     ensures { λ r. ⌜ Called (addRun number (point «first_east» «first_north») (point «second_east» «second_north»))
-        (tables (now (blocks .entry)) (now (runs .entry)) (now (pairs .entry)) (now (routes .entry)))
-        r (tables (now (blocks .exit)) (now (runs .exit)) (now (pairs .exit)) (now (routes .exit))) ⌝ }
+        (tables (now (blocks .entry)) (now (runs .entry)) (now (pairs .entry)) (now (routes .entry)) (now (totals .entry)))
+        r (tables (now (blocks .exit)) (now (runs .exit)) (now (pairs .exit)) (now (routes .exit)) (now (totals .exit))) ⌝ }
 {
     let first = Place {
         east: first_east,
@@ -99,7 +104,7 @@ pub extern "C" fn yard_add_run(
         east: second_east,
         north: second_north,
     };
-    run_edits::add_run(blocks, runs, pairs, routes, number, first, second)
+    run_edits::add_run(blocks, runs, pairs, routes, totals, number, first, second)
 }
 
 #[no_mangle]
@@ -108,13 +113,14 @@ pub extern "C" fn yard_remove_run(
     runs: &mut [u16],
     pairs: &mut [u8],
     routes: &mut [u32],
+    totals: &mut [u32],
     number: u32,
 ) -> u32
     ensures { λ r. ⌜ Called (removeRun number)
-        (tables (now (blocks .entry)) (now (runs .entry)) (now (pairs .entry)) (now (routes .entry)))
-        r (tables (now (blocks .exit)) (now (runs .exit)) (now (pairs .exit)) (now (routes .exit))) ⌝ }
+        (tables (now (blocks .entry)) (now (runs .entry)) (now (pairs .entry)) (now (routes .entry)) (now (totals .entry)))
+        r (tables (now (blocks .exit)) (now (runs .exit)) (now (pairs .exit)) (now (routes .exit)) (now (totals .exit))) ⌝ }
 {
-    run_edits::remove_run(blocks, runs, pairs, routes, number)
+    run_edits::remove_run(blocks, runs, pairs, routes, totals, number)
 }
 
 #[no_mangle]
@@ -123,6 +129,7 @@ pub extern "C" fn yard_move_run(
     runs: &mut [u16],
     pairs: &mut [u8],
     routes: &mut [u32],
+    totals: &mut [u32],
     number: u32,
     first_east: u16,
     first_north: u16,
@@ -130,8 +137,8 @@ pub extern "C" fn yard_move_run(
     second_north: u16,
 ) -> u32
     ensures { λ r. ⌜ Called (moveRun number (point «first_east» «first_north») (point «second_east» «second_north»))
-        (tables (now (blocks .entry)) (now (runs .entry)) (now (pairs .entry)) (now (routes .entry)))
-        r (tables (now (blocks .exit)) (now (runs .exit)) (now (pairs .exit)) (now (routes .exit))) ⌝ }
+        (tables (now (blocks .entry)) (now (runs .entry)) (now (pairs .entry)) (now (routes .entry)) (now (totals .entry)))
+        r (tables (now (blocks .exit)) (now (runs .exit)) (now (pairs .exit)) (now (routes .exit)) (now (totals .exit))) ⌝ }
 {
     let first = Place {
         east: first_east,
@@ -141,7 +148,7 @@ pub extern "C" fn yard_move_run(
         east: second_east,
         north: second_north,
     };
-    run_edits::move_run(blocks, runs, pairs, routes, number, first, second)
+    run_edits::move_run(blocks, runs, pairs, routes, totals, number, first, second)
 }
 
 #[no_mangle]
@@ -150,20 +157,27 @@ pub extern "C" fn yard_set_charge(
     runs: &mut [u16],
     pairs: &mut [u8],
     routes: &mut [u32],
+    totals: &mut [u32],
     figure: u16,
 ) -> u32
     ensures { λ r. ⌜ Called (setCharge figure)
-        (tables (now (blocks .entry)) (now (runs .entry)) (now (pairs .entry)) (now (routes .entry)))
-        r (tables (now (blocks .exit)) (now (runs .exit)) (now (pairs .exit)) (now (routes .exit))) ⌝ }
+        (tables (now (blocks .entry)) (now (runs .entry)) (now (pairs .entry)) (now (routes .entry)) (now (totals .entry)))
+        r (tables (now (blocks .exit)) (now (runs .exit)) (now (pairs .exit)) (now (routes .exit)) (now (totals .exit))) ⌝ }
 {
-    charge_edits::set_charge(blocks, runs, pairs, routes, figure)
+    charge_edits::set_charge(blocks, runs, pairs, routes, totals, figure)
 }
 
 #[no_mangle]
-pub extern "C" fn yard_check(blocks: &[u16], runs: &[u16], pairs: &[u8], routes: &[u32]) -> u32
-    ensures { λ r. ⌜ Checked (tables (now (blocks .entry)) (now (runs .entry)) (now (pairs .entry)) (now (routes .entry))) r ⌝ }
+pub extern "C" fn yard_check(
+    blocks: &[u16],
+    runs: &[u16],
+    pairs: &[u8],
+    routes: &[u32],
+    totals: &[u32],
+) -> u32
+    ensures { λ r. ⌜ Checked (tables (now (blocks .entry)) (now (runs .entry)) (now (pairs .entry)) (now (routes .entry)) (now (totals .entry))) r ⌝ }
 {
-    yard::check(blocks, runs, pairs, routes)
+    yard::check(blocks, runs, pairs, routes, totals)
 }
 
 // Four words into a lent list.
@@ -220,19 +234,20 @@ pub extern "C" fn yard_replay(
     runs: &mut [u16],
     pairs: &mut [u8],
     routes: &mut [u32],
+    totals: &mut [u32],
     file: &[u8],
     answers: &mut [u32],
     end: &mut [u64],
 ) -> u32
     ensures { λ r. ⌜ ReplayedInto (now (file .entry))
-        (tables (now (blocks .entry)) (now (runs .entry)) (now (pairs .entry)) (now (routes .entry)))
+        (tables (now (blocks .entry)) (now (runs .entry)) (now (pairs .entry)) (now (routes .entry)) (now (totals .entry)))
         (now (answers .entry)) (now (end .entry)) r (now (answers .exit)) (now (end .exit))
-        (tables (now (blocks .exit)) (now (runs .exit)) (now (pairs .exit)) (now (routes .exit))) ⌝ }
+        (tables (now (blocks .exit)) (now (runs .exit)) (now (pairs .exit)) (now (routes .exit)) (now (totals .exit))) ⌝ }
 {
     if end.len() != 2 {
         return 1;
     }
-    let outcome = replay::replay(file, blocks, runs, pairs, routes, answers);
+    let outcome = replay::replay(file, blocks, runs, pairs, routes, totals, answers);
     if outcome.number == 1 {
         return 1;
     }
@@ -268,15 +283,26 @@ pub extern "C" fn yard_piece(
     runs: &[u16],
     pairs: &[u8],
     routes: &[u32],
+    totals: &[u32],
     run: u32,
     piece: u32,
     kind: &mut [u32],
     points: &mut [f64],
 ) -> u32
-    ensures { λ r. ⌜ PieceFilled (tables (now (blocks .entry)) (now (runs .entry)) (now (pairs .entry)) (now (routes .entry)))
+    ensures { λ r. ⌜ PieceFilled (tables (now (blocks .entry)) (now (runs .entry)) (now (pairs .entry)) (now (routes .entry)) (now (totals .entry)))
         run piece (now (kind .entry)) (now (points .entry)) r (now (kind .exit)) (now (points .exit)) ⌝ }
 {
-    drawn_routes::fill_piece(blocks, runs, pairs, routes, run, piece, kind, points)
+    drawn_routes::fill_piece(
+        blocks,
+        runs,
+        pairs,
+        routes,
+        totals,
+        run,
+        piece,
+        kind,
+        points,
+    )
 }
 
 #[no_mangle]
@@ -285,13 +311,24 @@ pub extern "C" fn yard_bend(
     runs: &[u16],
     pairs: &[u8],
     routes: &[u32],
+    totals: &[u32],
     run: u32,
     piece: u32,
     kind: &mut [u32],
     points: &mut [f64],
 ) -> u32
-    ensures { λ r. ⌜ BendFilled (tables (now (blocks .entry)) (now (runs .entry)) (now (pairs .entry)) (now (routes .entry)))
+    ensures { λ r. ⌜ BendFilled (tables (now (blocks .entry)) (now (runs .entry)) (now (pairs .entry)) (now (routes .entry)) (now (totals .entry)))
         run piece (now (kind .entry)) (now (points .entry)) r (now (kind .exit)) (now (points .exit)) ⌝ }
 {
-    drawn_routes::fill_bend(blocks, runs, pairs, routes, run, piece, kind, points)
+    drawn_routes::fill_bend(
+        blocks,
+        runs,
+        pairs,
+        routes,
+        totals,
+        run,
+        piece,
+        kind,
+        points,
+    )
 }

@@ -14,14 +14,16 @@ fn print(file: &[u8], text: &mut [u8; ROOM]) -> usize
     let mut runs = [0u16; 121];
     let mut pairs = [0u8; 28680];
     let mut routes = [0u32; 4728];
+    let mut totals = [0u32; 25];
     let mut answers = [0u32; 4096];
-    yard::start(&mut blocks, &mut runs, &mut pairs, &mut routes);
+    yard::start(&mut blocks, &mut runs, &mut pairs, &mut routes, &mut totals);
     let outcome = replay::replay(
         file,
         &mut blocks,
         &mut runs,
         &mut pairs,
         &mut routes,
+        &mut totals,
         &mut answers,
     );
     listing::list(

@@ -1,4 +1,5 @@
 use borrow.Author.Needs.{needs}
+use Rattle.totals.proofs.Summing.{routed-addable}
 use Rattle.tables.proofs.Replacing.{figure-fit}
 use Rattle.charge_edits.proofs.replace_figure.Statement.{statement}
 use Rattle.charge_edits.proofs.replace_figure.Tie as tie
@@ -9,6 +10,8 @@ replace-figure-spec =
     (tie.spec
     (λ c. search needs)
     (λ c κs. search (figure-fit, needs))
+    (λ c κs. (search needs, search (figure-fit, routed-addable, needs), search needs))
+    (λ c. search needs)
     (λ c. search needs)
     (λ c. search needs)
     (λ c. search needs))

@@ -7,9 +7,9 @@ use Rattle.fields.proofs.move_block_at.Tie as tie
 
 returns : tie.Need-returns
 returns c =
-    let m = c .before .before .before .before .before .before .before .before in
+    let m = c .before .before .before .before .before .before .before .before .before .before in
     let d = m .before .before in
-    let g = d .before .before .before .before .before in
+    let g = d .before .before .before .before .before .before in
     shift-called _ _ _ _ _ _ _ _ (d .displacement .ok) (m .before .displacement2 .ok)
     (d .displacement .ensures ∙ ap displacement (g .before .field .ensures))
     (m .before .displacement2 .ensures ∙ ap displacement (g .field2 .ensures))
@@ -25,6 +25,7 @@ move-block-at-spec =
     (λ c κs. search needs)
     (λ c κs. search needs)
     (λ c κs. search needs)
+    (λ c. search needs)
     (λ c. search needs)
     (λ c. search needs)
     (λ c. search needs)

@@ -13,4 +13,5 @@ set-charge-at-spec =
     (λ c. search needs)
     (λ c. search needs)
     (λ c. search needs)
+    (λ c. search needs)
     (λ c. search charge-called))

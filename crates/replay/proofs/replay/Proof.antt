@@ -8,7 +8,7 @@ returns : tie.Need-returns
 returns c = tooShort (omega arith)
 
 returns-2 : tie.Need-returns-2
-returns-2 c = whole (omega arith) (c .before .before .before .before .before .before .before .before .before .before .call-edits .ensures)
+returns-2 c = whole (omega arith) (c .before .before .before .before .before .before .before .before .before .before .before .before .call-edits .ensures)
 
 pub replay-spec : {M : Type 1} → statement M
 replay-spec =
@@ -16,6 +16,7 @@ replay-spec =
     (tie.spec
     returns
     (λ c κs. search needs)
+    (λ c. search needs)
     (λ c. search needs)
     (λ c. search needs)
     (λ c. search needs)

@@ -6,8 +6,8 @@ use Rattle.yardlist.proofs.print.Tie as tie
 returns : tie.Need-returns
 returns c =
     printed
-    (c .before .before .before .before .before .before .before .before .before .before .before .before .before .before .before .before .before .before .before .start .ensures)
-    (c .before .before .before .before .before .before .before .before .before .replay .ensures)
+    (c .before .before .before .before .before .before .before .before .before .before .before .before .before .before .before .before .before .before .before .before .before .before .start .ensures)
+    (c .before .before .before .before .before .before .before .before .before .before .replay .ensures)
     (c .list .ensures)
 
 pub print-spec : {M : Type 1} → statement M
@@ -18,7 +18,9 @@ print-spec =
     (λ c. search needs)
     (λ c. search needs)
     (λ c. search needs)
+    (λ c. search needs)
     (λ c κs. search needs)
+    (λ c. search needs)
     (λ c. search needs)
     (λ c. search needs)
     (λ c. search needs)
