@@ -1,6 +1,6 @@
 //! The duct quote: a run across octagons of the drag yard's shape, and through walls.
 
-use crate::plain::{BLOCKS, PAIRS, ROUTES, RUNS};
+use crate::plain::{BLOCKS, RUNS};
 use crate::{abi, show, Counts, Tables, FULL, OCTAGON};
 use std::time::Instant;
 
@@ -66,7 +66,7 @@ pub const YARDS: [Yard; 11] = [
 
 impl Yard {
     pub fn tables(&self) -> Tables {
-        let mut t = Tables { blocks: vec![0; BLOCKS], runs: vec![0; RUNS], pairs: vec![0; PAIRS], routes: vec![0; ROUTES] };
+        let mut t = Tables::unstarted();
         let mut yard = t.yard();
         assert_eq!(yard.start(), 0);
         for (n, corners) in (self.blocks)().iter().enumerate() {

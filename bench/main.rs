@@ -15,18 +15,13 @@ mod stack;
 #[allow(dead_code)]
 mod tables;
 
-use plain::{Yard, BLOCKS, PAIRS, ROUTES, RUNS};
+use plain::{Yard, BLOCKS, PAIRS, ROUTES, RUNS, TOTALS};
 use std::time::Instant;
 pub use tables::Tables;
 
 impl Tables {
     pub fn yard(&mut self) -> Yard<'_> {
-        Yard { blocks: &mut self.blocks, runs: &mut self.runs, pairs: &mut self.pairs, routes: &mut self.routes }
-    }
-
-    /// The summed length of found routes.
-    fn sum(&self) -> u32 {
-        self.routes.chunks(197).filter(|r| r[0] == 1).map(|r| r[1]).sum()
+        Yard { blocks: &mut self.blocks, runs: &mut self.runs, pairs: &mut self.pairs, routes: &mut self.routes, totals: &mut self.totals }
     }
 }
 
@@ -85,7 +80,7 @@ impl Grid {
 
     /// The yard before the drag.
     pub fn tables(&self) -> Tables {
-        let mut t = Tables { blocks: vec![0; BLOCKS], runs: vec![0; RUNS], pairs: vec![0; PAIRS], routes: vec![0; ROUTES] };
+        let mut t = Tables::unstarted();
         let mut yard = t.yard();
         assert_eq!(yard.start(), 0);
         for n in 0..self.blocks {
@@ -157,7 +152,7 @@ fn step(p: Planner, t: &mut Tables, number: u32, by: (i16, i16)) -> u32 {
             abi::yard_move_block(
                 t.blocks.as_mut_ptr(), t.blocks.len(), t.runs.as_mut_ptr(), t.runs.len(),
                 t.pairs.as_mut_ptr(), t.pairs.len(), t.routes.as_mut_ptr(), t.routes.len(),
-                number, by.0, by.1,
+                t.totals.as_mut_ptr(), t.totals.len(), number, by.0, by.1,
             )
         },
         Planner::Plain => plain_move_block(t, number, by.0, by.1),
@@ -337,11 +332,11 @@ fn main() {
         // for callgrind: one check of a yard
         ["check", word] => {
             let t = grid(word).tables();
-            // The four tables are apart, live for the call, and as long as stated.
+            // The five tables are apart, live for the call, and as long as stated.
             let answer = unsafe {
                 abi::yard_check(
                     t.blocks.as_ptr(), BLOCKS, t.runs.as_ptr(), RUNS, t.pairs.as_ptr(), PAIRS,
-                    t.routes.as_ptr(), ROUTES,
+                    t.routes.as_ptr(), ROUTES, t.totals.as_ptr(), TOTALS,
                 )
             };
             assert_eq!(answer, 0);
@@ -354,11 +349,11 @@ fn main() {
             for _ in 0..steps.parse().expect("a count of steps") {
                 t.pairs.fill(254);
                 let e: [u16; 4] = t.runs[116..120].try_into().expect("a run's ends");
-                // The four tables are apart, live for the call, and as long as stated.
+                // The five tables are apart, live for the call, and as long as stated.
                 let answer = unsafe {
                     abi::yard_move_run(
                         t.blocks.as_mut_ptr(), BLOCKS, t.runs.as_mut_ptr(), RUNS, t.pairs.as_mut_ptr(), PAIRS,
-                        t.routes.as_mut_ptr(), ROUTES, 23, e[0], e[1], e[2], e[3],
+                        t.routes.as_mut_ptr(), ROUTES, t.totals.as_mut_ptr(), TOTALS, 23, e[0], e[1], e[2], e[3],
                     )
                 };
                 assert_eq!(answer, 0);

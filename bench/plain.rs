@@ -5,17 +5,22 @@ pub const BLOCKS: usize = 408;
 pub const RUNS: usize = 121;
 pub const PAIRS: usize = 28680;
 pub const ROUTES: usize = 4728;
+pub const TOTALS: usize = 25;
 
 /// The word of runs that holds the least charge, and the largest that it may be.
 const FIGURE: usize = 120;
 const LARGEST_FIGURE: u16 = 1000;
 
-/// The four lent tables.
+/// The word of totals that holds the sum of the lengths of found runs.
+const SUM: usize = 24;
+
+/// The five lent tables.
 pub struct Yard<'a> {
     pub blocks: &'a mut [u16],
     pub runs: &'a mut [u16],
     pub pairs: &'a mut [u8],
     pub routes: &'a mut [u32],
+    pub totals: &'a mut [u32],
 }
 
 type Place = (u16, u16);
@@ -278,7 +283,7 @@ fn at_least(a: Place, b: Place) -> u32 {
 
 impl Yard<'_> {
     fn question_1(&self) -> bool {
-        self.blocks.len() == BLOCKS && self.runs.len() == RUNS && self.pairs.len() == PAIRS && self.routes.len() == ROUTES
+        (self.blocks.len(), self.runs.len(), self.pairs.len(), self.routes.len(), self.totals.len()) == (BLOCKS, RUNS, PAIRS, ROUTES, TOTALS)
     }
 
     fn question_2(&self) -> bool {
@@ -319,6 +324,7 @@ impl Yard<'_> {
         self.runs.fill(0);
         self.pairs.fill(255);
         self.routes.fill(0);
+        self.totals.fill(0);
         0
     }
 
@@ -384,6 +390,7 @@ impl Yard<'_> {
                 self.blocks[17 * n..17 * n + 17].copy_from_slice(&words);
                 self.redraw_all_pairs();
                 self.write_routes();
+                self.write_totals();
                 0
             }
             Err(answer) => answer,
@@ -429,6 +436,7 @@ impl Yard<'_> {
         }
         self.runs[FIGURE] = figure;
         self.write_routes();
+        self.write_totals();
         0
     }
 
@@ -447,10 +455,12 @@ impl Yard<'_> {
                 }
             }
         }
-        let stored = self.routes.to_vec();
+        let (routes, totals) = (self.routes.to_vec(), self.totals.to_vec());
         self.write_routes();
-        let right = stored[..] == self.routes[..];
-        self.routes.copy_from_slice(&stored);
+        self.write_totals();
+        let right = routes[..] == self.routes[..] && totals[..] == self.totals[..];
+        self.routes.copy_from_slice(&routes);
+        self.totals.copy_from_slice(&totals);
         if right {
             0
         } else {
@@ -462,6 +472,7 @@ impl Yard<'_> {
         self.blocks[17 * n..17 * n + 17].copy_from_slice(words);
         self.redraw_after_block(n);
         self.write_routes();
+        self.write_totals();
         0
     }
 
@@ -476,6 +487,7 @@ impl Yard<'_> {
             }
         }
         self.write_routes();
+        self.write_totals();
         0
     }
 
@@ -512,6 +524,22 @@ impl Yard<'_> {
     fn write_routes(&mut self) {
         for m in 0..24 {
             self.write_route(m);
+        }
+    }
+
+    /// How many pairs name each block, and the sum of the lengths of found runs.
+    #[inline(never)]
+    fn write_totals(&mut self) {
+        self.totals.fill(0);
+        for &byte in self.pairs.iter() {
+            if byte < 24 {
+                self.totals[byte as usize] += 1;
+            }
+        }
+        for m in 0..24 {
+            if self.routes[197 * m] == 1 {
+                self.totals[SUM] += self.routes[197 * m + 1];
+            }
         }
     }
 

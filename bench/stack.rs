@@ -32,7 +32,7 @@ enum Call {
 }
 
 const NUMBER: u32 = 8;
-const TABLES: usize = 48_650;
+const TABLES: usize = 48_750;
 /// Of the tables and the stack of the calls that a panel makes.
 const PANEL: usize = 65_536;
 
@@ -41,23 +41,24 @@ extern "C" fn perform(job: *mut Job) {
     let t = &mut *job.t;
     let (b, bl, r, rl) = (t.blocks.as_mut_ptr(), t.blocks.len(), t.runs.as_mut_ptr(), t.runs.len());
     let (p, pl, w, wl) = (t.pairs.as_mut_ptr(), t.pairs.len(), t.routes.as_mut_ptr(), t.routes.len());
+    let (s, sl) = (t.totals.as_mut_ptr(), t.totals.len());
     let answer = unsafe {
         match &mut job.call {
             Call::Nothing => 0,
-            Call::Start => yard_start(b, bl, r, rl, p, pl, w, wl),
-            Call::AddBlock(c) => yard_add_block(b, bl, r, rl, p, pl, w, wl, NUMBER, c.as_ptr(), c.len()),
-            Call::RemoveBlock => yard_remove_block(b, bl, r, rl, p, pl, w, wl, NUMBER),
-            Call::MoveBlock(e, n) => yard_move_block(b, bl, r, rl, p, pl, w, wl, NUMBER, *e, *n),
-            Call::AddRun(e) => yard_add_run(b, bl, r, rl, p, pl, w, wl, NUMBER, e[0], e[1], e[2], e[3]),
-            Call::RemoveRun => yard_remove_run(b, bl, r, rl, p, pl, w, wl, NUMBER),
-            Call::MoveRun(e) => yard_move_run(b, bl, r, rl, p, pl, w, wl, NUMBER, e[0], e[1], e[2], e[3]),
-            Call::SetCharge(figure) => yard_set_charge(b, bl, r, rl, p, pl, w, wl, *figure),
-            Call::Check => yard_check(b, bl, r, rl, p, pl, w, wl),
-            Call::Piece(run, piece, q) => yard_piece(b, bl, r, rl, p, pl, w, wl, *run, *piece, &mut 0, 1, q.as_mut_ptr(), q.len()),
-            Call::Bend(run, piece, q) => yard_bend(b, bl, r, rl, p, pl, w, wl, *run, *piece, &mut 0, 1, q.as_mut_ptr(), q.len()),
+            Call::Start => yard_start(b, bl, r, rl, p, pl, w, wl, s, sl),
+            Call::AddBlock(c) => yard_add_block(b, bl, r, rl, p, pl, w, wl, s, sl, NUMBER, c.as_ptr(), c.len()),
+            Call::RemoveBlock => yard_remove_block(b, bl, r, rl, p, pl, w, wl, s, sl, NUMBER),
+            Call::MoveBlock(e, n) => yard_move_block(b, bl, r, rl, p, pl, w, wl, s, sl, NUMBER, *e, *n),
+            Call::AddRun(e) => yard_add_run(b, bl, r, rl, p, pl, w, wl, s, sl, NUMBER, e[0], e[1], e[2], e[3]),
+            Call::RemoveRun => yard_remove_run(b, bl, r, rl, p, pl, w, wl, s, sl, NUMBER),
+            Call::MoveRun(e) => yard_move_run(b, bl, r, rl, p, pl, w, wl, s, sl, NUMBER, e[0], e[1], e[2], e[3]),
+            Call::SetCharge(figure) => yard_set_charge(b, bl, r, rl, p, pl, w, wl, s, sl, *figure),
+            Call::Check => yard_check(b, bl, r, rl, p, pl, w, wl, s, sl),
+            Call::Piece(run, piece, q) => yard_piece(b, bl, r, rl, p, pl, w, wl, s, sl, *run, *piece, &mut 0, 1, q.as_mut_ptr(), q.len()),
+            Call::Bend(run, piece, q) => yard_bend(b, bl, r, rl, p, pl, w, wl, s, sl, *run, *piece, &mut 0, 1, q.as_mut_ptr(), q.len()),
             Call::Replay(f, a, e) => {
                 let (a, al, e, el) = (a.as_mut_ptr(), a.len(), e.as_mut_ptr(), e.len());
-                yard_replay(b, bl, r, rl, p, pl, w, wl, f.as_ptr(), f.len(), a, al, e, el)
+                yard_replay(b, bl, r, rl, p, pl, w, wl, s, sl, f.as_ptr(), f.len(), a, al, e, el)
             }
             Call::QuoteRoute(run, w) => yard_quote_route(b, bl, r, rl, *run, w.as_mut_ptr(), w.len()),
             Call::QuoteDuct(q, c) => yard_quote_duct(b, bl, r, rl, 0, q.as_mut_ptr(), q.len(), c.as_mut_ptr(), c.len()),

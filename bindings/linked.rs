@@ -45,17 +45,19 @@ macro_rules! fenced_call {
     ($t:expr, $f:ident $(, $arg:expr)*) => {{
         let (mut b, mut r) = (Fenced::new(&$t.blocks, 0x5A5A), Fenced::new(&$t.runs, 0x5A5A));
         let (mut p, mut w) = (Fenced::new(&$t.pairs, 0x5A), Fenced::new(&$t.routes, 0x5A5A_5A5A));
-        // The four tables are apart, live for the call, and as long as stated.
-        let answer = unsafe { $f(b.ptr(), b.len, r.ptr(), r.len, p.ptr(), p.len, w.ptr(), w.len $(, $arg)*) };
+        let mut s = Fenced::new(&$t.totals, 0x5A5A_5A5A);
+        // The five tables are apart, live for the call, and as long as stated.
+        let answer = unsafe { $f(b.ptr(), b.len, r.ptr(), r.len, p.ptr(), p.len, w.ptr(), w.len, s.ptr(), s.len $(, $arg)*) };
         b.take(&mut $t.blocks, "blocks");
         r.take(&mut $t.runs, "runs");
         p.take(&mut $t.pairs, "pairs");
         w.take(&mut $t.routes, "routes");
+        s.take(&mut $t.totals, "totals");
         answer
     }};
 }
 
-/// A call that is lent the four tables to read.
+/// A call that is lent the five tables to read.
 macro_rules! reading_call {
     ($t:expr, $f:ident $(, $arg:expr)*) => {{
         let mut copy = $t.clone();
@@ -89,7 +91,8 @@ impl Planner for Linked {
 
 /// A call that draws: `yard_piece` or `yard_bend`.
 type Draw = unsafe extern "C" fn(
-    *const u16, usize, *const u16, usize, *const u8, usize, *const u32, usize, u32, u32, *mut u32, usize, *mut f64, usize,
+    *const u16, usize, *const u16, usize, *const u8, usize, *const u32, usize, *const u32, usize,
+    u32, u32, *mut u32, usize, *mut f64, usize,
 ) -> u32;
 
 /// The floats go in, and are compared, as their bits.

@@ -1,4 +1,4 @@
-//! The four tables, the edits, and what a planner does with them.
+//! The five tables, the edits, and what a planner does with them.
 
 pub const BLOCKS: usize = 408;
 pub const RUNS: usize = 121;
@@ -6,6 +6,9 @@ pub const RUNS: usize = 121;
 pub const FIGURE: usize = 120;
 pub const PAIRS: usize = 28680;
 pub const ROUTES: usize = 4728;
+pub const TOTALS: usize = 25;
+/// The word of totals that holds the sum of the lengths of found runs.
+pub const SUM: usize = 24;
 
 #[derive(Clone, PartialEq, Eq)]
 pub struct Tables {
@@ -13,12 +16,14 @@ pub struct Tables {
     pub runs: Vec<u16>,
     pub pairs: Vec<u8>,
     pub routes: Vec<u32>,
+    pub totals: Vec<u32>,
 }
 
 impl Tables {
     /// Tables of the right lengths with contents that start must overwrite.
     pub fn unstarted() -> Tables {
-        Tables { blocks: vec![0xABCD; BLOCKS], runs: vec![0xABCD; RUNS], pairs: vec![0xAB; PAIRS], routes: vec![0xABCD_ABCD; ROUTES] }
+        let (routes, totals) = (vec![0xABCD_ABCD; ROUTES], vec![0xABCD_ABCD; TOTALS]);
+        Tables { blocks: vec![0xABCD; BLOCKS], runs: vec![0xABCD; RUNS], pairs: vec![0xAB; PAIRS], routes, totals }
     }
 
     pub fn pair(&self, i: usize, j: usize) -> u8 {
@@ -34,6 +39,11 @@ impl Tables {
     pub fn route(&self, m: usize) -> (u32, u32, &[u32]) {
         let words = &self.routes[197 * m..197 * m + 197];
         (words[0], words[1], &words[3..3 + (words[2] as usize).min(194)])
+    }
+
+    /// The sum of the lengths of found runs.
+    pub fn sum(&self) -> u32 {
+        self.totals[SUM]
     }
 
     /// The first place where two sets of tables differ.
@@ -56,6 +66,10 @@ impl Tables {
                 return Some(format!("route of run {m} is {:?}, should be {:?} (word {})", self.route(m), right.route(m), at % 197));
             }
             return Some(format!("routes word {at} is {}, should be {}", show(&self.routes, at), show(&right.routes, at)));
+        }
+        if let Some(at) = first_difference(&self.totals, &right.totals) {
+            let what = if at < SUM { format!("pairs that name block {at}") } else { "the summed lengths".to_string() };
+            return Some(format!("totals word {at} ({what}) is {}, should be {}", show(&self.totals, at), show(&right.totals, at)));
         }
         None
     }

@@ -3,9 +3,9 @@
  *
  * The archive is for x86-64 and its System V calling convention (Linux). It calls memcpy and memset and nothing else.
  *
- * The caller owns four tables, best in a struct yard, and lends them to every call but yard_read, each as a pointer and
+ * The caller owns five tables, best in a struct yard, and lends them to every call but yard_read, each as a pointer and
  * a length in elements; a quote is lent blocks and runs alone. The lengths must be exactly those below. Together the
- * tables take 48,650 bytes. No table or list that a call is lent may overlap another, be it corners, a file, an item,
+ * tables take 48,750 bytes. No table or list that a call is lent may overlap another, be it corners, a file, an item,
  * answers, an end, a quote, a kind or points. Every pointer must be valid for its length and aligned for its element
  * type; NULL is allowed with length 0 alone, and is then an empty list.
  *
@@ -62,12 +62,21 @@ extern "C" {
  */
 #define YARD_ROUTES_LEN 4728
 
-/* The four tables in one piece. */
+/*
+ * totals: 25 words. Word n below 24 is how many bytes of pairs are n, and so name block n. The last, YARD_TOTALS_SUM,
+ * is the sum of the lengths of found runs: it fits, for 24 runs of 193 straights of 46,340 are 214,646,880. An accepted
+ * edit makes all words anew from pairs and routes as it leaves them, right or wrong, whatever totals held: wrong totals
+ * do not refuse an edit, and do not outlast one.
+ */
+#define YARD_TOTALS_LEN 25
+
+/* The five tables in one piece. */
 struct yard {
     uint16_t blocks[YARD_BLOCKS_LEN];
     uint16_t runs[YARD_RUNS_LEN];
     uint8_t pairs[YARD_PAIRS_LEN];
     uint32_t routes[YARD_ROUTES_LEN];
+    uint32_t totals[YARD_TOTALS_LEN];
 };
 
 /*
@@ -75,19 +84,21 @@ struct yard {
  * yard_quote_duct(YARD_RECORDS(&yard), 3, ..). The argument is a pointer, and is written out several times.
  */
 #define YARD_RECORDS(yard) (yard)->blocks, YARD_BLOCKS_LEN, (yard)->runs, YARD_RUNS_LEN
-#define YARD_TABLES(yard) YARD_RECORDS(yard), (yard)->pairs, YARD_PAIRS_LEN, (yard)->routes, YARD_ROUTES_LEN
+#define YARD_TABLES(yard)                                                                                              \
+    YARD_RECORDS(yard), (yard)->pairs, YARD_PAIRS_LEN, (yard)->routes, YARD_ROUTES_LEN, (yard)->totals, YARD_TOTALS_LEN
 
 #define YARD_BLOCK_WORDS 17
 #define YARD_RUN_WORDS 5
 #define YARD_CHARGE_AT 120 /* of runs: the least charge */
 #define YARD_ROUTE_WORDS 197
+#define YARD_TOTALS_SUM 24 /* of totals: the sum of the lengths of found runs */
 
 #define YARD_ROUTE_ABSENT 0
 #define YARD_ROUTE_FOUND 1
 #define YARD_ROUTE_NO_WAY 2
 
 /* Answers. The questions are asked in this order, and the first that fails is the answer. */
-#define YARD_DONE 0             /* done; of yard_check: pairs and routes are right */
+#define YARD_DONE 0             /* done; of yard_check: pairs, routes and totals are right */
 #define YARD_WRONG_LENGTH 1     /* a table or list is not as long as stated */
 #define YARD_WRONG_RECORD 2     /* a stored block, run or least charge is not one that these calls write */
 #define YARD_WRONG_NUMBER 3     /* the number is not below 24 */
@@ -98,52 +109,58 @@ struct yard {
 #define YARD_NOT_CONVEX 8       /* adding a block: some corner is not strictly left of every side that it is not on */
 #define YARD_NOT_A_FILE 9       /* yard_read, yard_replay: not 5 to 8,192 bytes, the letters YRD and version 1 */
 #define YARD_NOT_A_RECORD 10    /* yard_read, yard_replay: outside the file, the kind unknown or the record cut off */
-#define YARD_NOT_DRAWN 11       /* checking or drawing: a byte of pairs or routes is not what blocks and runs require */
+#define YARD_NOT_DRAWN 11       /* checking or drawing: pairs, routes or totals are not what blocks and runs require */
 #define YARD_TOO_MANY_BLOCKS 12 /* yard_quote_duct: more than 8 blocks stand */
 #define YARD_WRONG_CHARGE 13    /* yard_set_charge: the least charge is above 1,000 */
 
-/* An empty yard with least charge 0, whatever the tables held. Answers 0 or 1. */
+/* An empty yard with least charge 0 and totals all 0, whatever the tables held. Answers 0 or 1. */
 uint32_t yard_start(uint16_t *blocks, size_t blocks_len, uint16_t *runs, size_t runs_len, uint8_t *pairs,
-                    size_t pairs_len, uint32_t *routes, size_t routes_len);
+                    size_t pairs_len, uint32_t *routes, size_t routes_len, uint32_t *totals, size_t totals_len);
 
 /* corners: east then north of each corner, anticlockwise; corners_len counts words, 6 to 16. Answers 0 to 4, 6 to 8. */
 uint32_t yard_add_block(uint16_t *blocks, size_t blocks_len, uint16_t *runs, size_t runs_len, uint8_t *pairs,
-                        size_t pairs_len, uint32_t *routes, size_t routes_len, uint32_t number,
-                        const uint16_t *corners, size_t corners_len);
+                        size_t pairs_len, uint32_t *routes, size_t routes_len, uint32_t *totals, size_t totals_len,
+                        uint32_t number, const uint16_t *corners, size_t corners_len);
 
 /* Answers 0 to 3 and 5. */
 uint32_t yard_remove_block(uint16_t *blocks, size_t blocks_len, uint16_t *runs, size_t runs_len, uint8_t *pairs,
-                           size_t pairs_len, uint32_t *routes, size_t routes_len, uint32_t number);
+                           size_t pairs_len, uint32_t *routes, size_t routes_len, uint32_t *totals, size_t totals_len,
+                           uint32_t number);
 
 /* Move every corner by a displacement. Answers 0 to 3, 5 and 7. */
 uint32_t yard_move_block(uint16_t *blocks, size_t blocks_len, uint16_t *runs, size_t runs_len, uint8_t *pairs,
-                         size_t pairs_len, uint32_t *routes, size_t routes_len, uint32_t number, int16_t east,
-                         int16_t north);
+                         size_t pairs_len, uint32_t *routes, size_t routes_len, uint32_t *totals, size_t totals_len,
+                         uint32_t number, int16_t east, int16_t north);
 
 /* Answers 0 to 4 and 7. */
 uint32_t yard_add_run(uint16_t *blocks, size_t blocks_len, uint16_t *runs, size_t runs_len, uint8_t *pairs,
-                      size_t pairs_len, uint32_t *routes, size_t routes_len, uint32_t number, uint16_t first_east,
-                      uint16_t first_north, uint16_t second_east, uint16_t second_north);
+                      size_t pairs_len, uint32_t *routes, size_t routes_len, uint32_t *totals, size_t totals_len,
+                      uint32_t number, uint16_t first_east, uint16_t first_north, uint16_t second_east,
+                      uint16_t second_north);
 
 /* Answers 0 to 3 and 5. */
 uint32_t yard_remove_run(uint16_t *blocks, size_t blocks_len, uint16_t *runs, size_t runs_len, uint8_t *pairs,
-                         size_t pairs_len, uint32_t *routes, size_t routes_len, uint32_t number);
+                         size_t pairs_len, uint32_t *routes, size_t routes_len, uint32_t *totals, size_t totals_len,
+                         uint32_t number);
 
 /* Both ends new. Answers 0 to 3, 5 and 7. */
 uint32_t yard_move_run(uint16_t *blocks, size_t blocks_len, uint16_t *runs, size_t runs_len, uint8_t *pairs,
-                       size_t pairs_len, uint32_t *routes, size_t routes_len, uint32_t number, uint16_t first_east,
-                       uint16_t first_north, uint16_t second_east, uint16_t second_north);
+                       size_t pairs_len, uint32_t *routes, size_t routes_len, uint32_t *totals, size_t totals_len,
+                       uint32_t number, uint16_t first_east, uint16_t first_north, uint16_t second_east,
+                       uint16_t second_north);
 
 /*
- * Set the least charge of a straight, from 0 to 1,000. Every route is made anew by pairs as they stand, right or wrong;
- * pairs are kept. Answers 0 to 2 and 13.
+ * Set the least charge of a straight, from 0 to 1,000. Every route is made anew by pairs as they stand, right or wrong,
+ * and totals with them; pairs are kept. Answers 0 to 2 and 13.
  */
 uint32_t yard_set_charge(uint16_t *blocks, size_t blocks_len, uint16_t *runs, size_t runs_len, uint8_t *pairs,
-                         size_t pairs_len, uint32_t *routes, size_t routes_len, uint16_t figure);
+                         size_t pairs_len, uint32_t *routes, size_t routes_len, uint32_t *totals, size_t totals_len,
+                         uint16_t figure);
 
-/* Are pairs and routes what blocks and runs require? Changes nothing. Answers 0, 1, 2 or 11. */
+/* Are pairs, routes and totals what blocks and runs require? Changes nothing. Answers 0, 1, 2 or 11. */
 uint32_t yard_check(const uint16_t *blocks, size_t blocks_len, const uint16_t *runs, size_t runs_len,
-                    const uint8_t *pairs, size_t pairs_len, const uint32_t *routes, size_t routes_len);
+                    const uint8_t *pairs, size_t pairs_len, const uint32_t *routes, size_t routes_len,
+                    const uint32_t *totals, size_t totals_len);
 
 /*
  * How a run's route is drawn: as pieces, straight and bend in turn, numbered from 0. A route with k marks between its
@@ -171,12 +188,14 @@ uint32_t yard_check(const uint16_t *blocks, size_t blocks_len, const uint16_t *r
 #define YARD_PIECE_BEND 2
 
 uint32_t yard_piece(const uint16_t *blocks, size_t blocks_len, const uint16_t *runs, size_t runs_len,
-                    const uint8_t *pairs, size_t pairs_len, const uint32_t *routes, size_t routes_len, uint32_t run,
-                    uint32_t piece, uint32_t *kind, size_t kind_len, double *points, size_t points_len);
+                    const uint8_t *pairs, size_t pairs_len, const uint32_t *routes, size_t routes_len,
+                    const uint32_t *totals, size_t totals_len, uint32_t run, uint32_t piece, uint32_t *kind,
+                    size_t kind_len, double *points, size_t points_len);
 
 uint32_t yard_bend(const uint16_t *blocks, size_t blocks_len, const uint16_t *runs, size_t runs_len,
-                   const uint8_t *pairs, size_t pairs_len, const uint32_t *routes, size_t routes_len, uint32_t run,
-                   uint32_t piece, uint32_t *kind, size_t kind_len, double *points, size_t points_len);
+                   const uint8_t *pairs, size_t pairs_len, const uint32_t *routes, size_t routes_len,
+                   const uint32_t *totals, size_t totals_len, uint32_t run, uint32_t piece, uint32_t *kind,
+                   size_t kind_len, double *points, size_t points_len);
 
 /*
  * The route of a run from blocks and runs alone, where there is no memory for pairs: whether a straight is clear is
@@ -235,8 +254,9 @@ uint32_t yard_read(const uint8_t *file, size_t file_len, size_t at, uint64_t *it
 #define YARD_END_LEN 2
 
 uint32_t yard_replay(uint16_t *blocks, size_t blocks_len, uint16_t *runs, size_t runs_len, uint8_t *pairs,
-                     size_t pairs_len, uint32_t *routes, size_t routes_len, const uint8_t *file, size_t file_len,
-                     uint32_t *answers, size_t answers_len, uint64_t *end, size_t end_len);
+                     size_t pairs_len, uint32_t *routes, size_t routes_len, uint32_t *totals, size_t totals_len,
+                     const uint8_t *file, size_t file_len, uint32_t *answers, size_t answers_len, uint64_t *end,
+                     size_t end_len);
 
 #ifdef __cplusplus
 }

@@ -101,6 +101,7 @@ fn known(p: &impl Planner, report: &mut Report) {
             let mut due = t.clone();
             due.runs[FIGURE] = figure;
             due.routes[197 * 7..197 * 8].copy_from_slice(&record(sum, &[0, 1, 2]));
+            due.totals = reference::totals(&due.pairs, &due.routes);
             set(p, &mut t, figure, &due, calls)?;
         }
         Ok(())

@@ -12,13 +12,14 @@ fn lent<T>(list: &mut [T], missing: bool) -> (*mut T, usize) {
     if missing { (null_mut(), 0) } else { (list.as_mut_ptr(), list.len()) }
 }
 
-/// The four tables as a call takes them, those whose bit is set as NULL.
+/// The five tables as a call takes them, those whose bit is set as NULL.
 macro_rules! with_tables {
     ($t:expr, $missing:expr, $f:ident $(, $arg:expr)*) => {{
         let (b, r) = (lent(&mut $t.blocks, $missing & 1 != 0), lent(&mut $t.runs, $missing & 2 != 0));
         let (p, w) = (lent(&mut $t.pairs, $missing & 4 != 0), lent(&mut $t.routes, $missing & 8 != 0));
+        let s = lent(&mut $t.totals, $missing & 16 != 0);
         // Each table is apart, live for the call and as long as stated, or empty.
-        unsafe { $f(b.0, b.1, r.0, r.1, p.0, p.1, w.0, w.1 $(, $arg)*) }
+        unsafe { $f(b.0, b.1, r.0, r.1, p.0, p.1, w.0, w.1, s.0, s.1 $(, $arg)*) }
     }};
 }
 
@@ -31,8 +32,8 @@ fn yard() -> Tables {
 }
 
 fn tables(report: &mut Report) {
-    for missing in 1..16 {
-        report.case(&format!("tables {missing:04b} NULL"), |calls| {
+    for missing in 1..32 {
+        report.case(&format!("tables {missing:05b} NULL"), |calls| {
             let before = yard();
             let mut t = before.clone();
             let corners = [30u16, 30, 40, 30, 40, 40];
@@ -103,7 +104,7 @@ fn replaying(report: &mut Report) {
             with_tables!(t, 0, yard_replay, FILE.as_ptr(), FILE.len(), list.as_mut_ptr(), list.len(), null_mut(), 0),
             with_tables!(t, 0, yard_replay, null(), 0, null_mut(), 0, end.as_mut_ptr(), 2),
             with_tables!(t, 0, yard_replay, null(), 0, list.as_mut_ptr(), list.len(), null_mut(), 0),
-            with_tables!(t, 15, yard_replay, null(), 0, null_mut(), 0, null_mut(), 0),
+            with_tables!(t, 31, yard_replay, null(), 0, null_mut(), 0, null_mut(), 0),
         ];
         if answers != [1; 5] || end != [7, 7] {
             return Err(format!("{answers:?}, end {end:?}"));
@@ -150,16 +151,16 @@ fn quoting(report: &mut Report) {
 }
 
 fn drawing(report: &mut Report) {
-    for missing in 1..64 {
-        report.case(&format!("lists {missing:06b} of a call that draws NULL"), |calls| {
+    for missing in 1..128 {
+        report.case(&format!("lists {missing:07b} of a call that draws NULL"), |calls| {
             let before = yard();
             let mut t = before.clone();
             let (mut kind, mut points) = ([7u32], [7.0; 18]);
             for run in [4, 0, 24] {
-                let k = lent(&mut kind, missing & 16 != 0);
-                let six = lent(&mut points[..6], missing & 32 != 0);
+                let k = lent(&mut kind, missing & 32 != 0);
+                let six = lent(&mut points[..6], missing & 64 != 0);
                 same_answer("piece", with_tables!(t, missing, yard_piece, run, 0, k.0, k.1, six.0, six.1), 1)?;
-                let nine = lent(&mut points, missing & 32 != 0);
+                let nine = lent(&mut points, missing & 64 != 0);
                 same_answer("bend", with_tables!(t, missing, yard_bend, run, 1, k.0, k.1, nine.0, nine.1), 1)?;
                 *calls += 2;
             }

@@ -1,17 +1,17 @@
-//! A quote is lent blocks, runs and lists of its own, and a call that draws the other two tables as well: what such a call
-//! must make of them, and the cases in which every one is refused.
+//! A quote is lent blocks, runs and lists of its own, and a call that draws the other three tables as well: what such a
+//! call must make of them, and the cases in which every one is refused.
 
 use crate::duct_yards::{seeded, shown, SMALL};
 use crate::random::Random;
 use crate::reference::{stored_book, Book};
-use crate::tables::{Tables, BLOCKS, FIGURE, PAIRS, ROUTES, RUNS};
+use crate::tables::{Tables, BLOCKS, FIGURE, PAIRS, ROUTES, RUNS, TOTALS};
 use crate::{same_answer, scramble, spoil, Report};
 
 /// The lists that a call fills.
 pub trait Lists: Clone {
     const NAME: &'static str;
     const COUNT: usize;
-    /// Whether the call is lent pairs and routes too.
+    /// Whether the call is lent pairs, routes and totals too.
     const DRAWS: bool = false;
     /// The numbers that calls over changed records get.
     const NUMBERS: &'static [usize];
@@ -42,14 +42,14 @@ pub struct Lent<L> {
 
 impl<L: Lists> Lent<L> {
     /// How many tables the call is lent.
-    const TABLES: usize = if L::DRAWS { 4 } else { 2 };
+    const TABLES: usize = if L::DRAWS { 5 } else { 2 };
 
     /// A book's records, or its whole drawing, and any lists.
     pub fn new(r: &mut Random, book: &Book) -> Lent<L> {
         if L::DRAWS {
             return Lent::over(r, book.drawing());
         }
-        let mut tables = Tables { blocks: vec![0; BLOCKS], runs: vec![0; RUNS], pairs: vec![], routes: vec![] };
+        let mut tables = Tables { blocks: vec![0; BLOCKS], runs: vec![0; RUNS], pairs: vec![], routes: vec![], totals: vec![] };
         book.write_records(&mut tables);
         Lent::over(r, tables)
     }
@@ -60,8 +60,9 @@ impl<L: Lists> Lent<L> {
 
     fn lengths_right(&self) -> bool {
         let t = &self.tables;
-        let others = if L::DRAWS { (PAIRS, ROUTES) } else { (0, 0) };
-        (t.blocks.len(), t.runs.len()) == (BLOCKS, RUNS) && (t.pairs.len(), t.routes.len()) == others && self.lists.lengths_right()
+        let others = if L::DRAWS { (PAIRS, ROUTES, TOTALS) } else { (0, 0, 0) };
+        let records_right = (t.blocks.len(), t.runs.len()) == (BLOCKS, RUNS);
+        records_right && (t.pairs.len(), t.routes.len(), t.totals.len()) == others && self.lists.lengths_right()
     }
 
     fn quoted(&self, run: u32) -> Result<L, u32> {
@@ -83,6 +84,7 @@ impl<L: Lists> Lent<L> {
             1 => self.tables.runs.resize(other(RUNS), 0),
             2 if L::DRAWS => self.tables.pairs.resize(other(PAIRS), 255),
             3 if L::DRAWS => self.tables.routes.resize(other(ROUTES), 0),
+            4 if L::DRAWS => self.tables.totals.resize(other(TOTALS), 0),
             own => self.lists.resize(own - Self::TABLES, other),
         }
     }

@@ -47,7 +47,7 @@ use random::{Random, Style, FULL, STYLES};
 use reference::Book;
 use std::panic::{catch_unwind, AssertUnwindSafe};
 use std::time::Instant;
-use tables::{Edit, Planner, Tables, BLOCKS, FIGURE, PAIRS, ROUTES, RUNS};
+use tables::{Edit, Planner, Tables, BLOCKS, FIGURE, PAIRS, ROUTES, RUNS, TOTALS};
 
 #[cfg(not(plain))]
 fn planner() -> impl Planner {
@@ -188,7 +188,7 @@ fn random_yard(r: &mut Random, s: &Style, count: usize) -> (Book, Tables) {
     (book, t)
 }
 
-/// Wrong bytes of pairs and wrong words of routes, of several kinds.
+/// Wrong bytes of pairs and wrong words of routes and totals, of several kinds.
 fn spoil(r: &mut Random, t: &mut Tables) {
     match r.below(5) {
         0 => t.pairs.iter_mut().for_each(|b| *b = r.next() as u8),
@@ -203,6 +203,23 @@ fn spoil(r: &mut Random, t: &mut Tables) {
     }
     if r.percent(70) {
         t.routes.iter_mut().for_each(|w| *w = r.next() as u32);
+    }
+    if r.percent(70) {
+        spoil_totals(r, t);
+    }
+}
+
+/// Words of totals that are wrong, but for luck: all of them, some, or one.
+fn spoil_totals(r: &mut Random, t: &mut Tables) {
+    let at = r.below(TOTALS);
+    match r.below(7) {
+        0 => t.totals.iter_mut().for_each(|w| *w = r.next() as u32),
+        1 => t.totals.fill(r.pick(&[0, 1, u32::MAX])),
+        2 => t.totals.iter_mut().for_each(|w| *w = w.wrapping_add(1)),
+        3 => t.totals[at] = t.totals[at].wrapping_add(r.pick(&[1, u32::MAX])),
+        4 => t.totals[at] = r.pick(&[0, 7, u32::MAX]),
+        5 => t.totals.rotate_left(1),
+        _ => (0..6).for_each(|_| t.totals[r.below(TOTALS)] = r.next() as u32),
     }
 }
 
@@ -292,7 +309,7 @@ fn every_edit(r: &mut Random) -> Vec<Edit> {
 
 fn wrong_lengths(p: &impl Planner, report: &mut Report) {
     let lengths = |right: usize| [0, 1, right / 2, right - 1, right + 1, right + 17, 2 * right];
-    for seed in 0..28u64 {
+    for seed in 0..35u64 {
         let (table, kind) = ((seed / 7) as usize, (seed % 7) as usize);
         report.case(&format!("wrong lengths, seed {seed}"), |calls| {
             let mut r = Random::new(seed);
@@ -301,7 +318,8 @@ fn wrong_lengths(p: &impl Planner, report: &mut Report) {
                 0 => t.blocks.resize(lengths(BLOCKS)[kind], 0),
                 1 => t.runs.resize(lengths(RUNS)[kind], 0),
                 2 => t.pairs.resize(lengths(PAIRS)[kind], 255),
-                _ => t.routes.resize(lengths(ROUTES)[kind], 0),
+                3 => t.routes.resize(lengths(ROUTES)[kind], 0),
+                _ => t.totals.resize(lengths(TOTALS)[kind], 0),
             }
             // Question 1 comes before 2.
             if r.percent(50) && !t.blocks.is_empty() {
@@ -319,8 +337,8 @@ fn wrong_lengths(p: &impl Planner, report: &mut Report) {
             same_tables("start", &t, &before)
         });
     }
-    report.case("all four empty", |calls| {
-        let mut t = Tables { blocks: vec![], runs: vec![], pairs: vec![], routes: vec![] };
+    report.case("all five empty", |calls| {
+        let mut t = Tables { blocks: vec![], runs: vec![], pairs: vec![], routes: vec![], totals: vec![] };
         for e in every_edit(&mut Random::new(1)) {
             *calls += 1;
             same_answer(&format!("{e:?}"), p.edit(&mut t, &e), 1)?;
@@ -420,7 +438,10 @@ fn checks(p: &impl Planner, report: &mut Report) {
                 let at = if r.percent(50) { 197 * run + r.below(8) } else { r.below(ROUTES) };
                 word.routes[at] = word.routes[at].wrapping_add(r.pick(&[1, u32::MAX, 256, 0x8000_0000, 7]));
                 same_answer(&format!("check with route word {at} made {}", word.routes[at]), p.check(&word), 11)?;
-                *calls += 2;
+                let (mut total, at) = (t.clone(), r.below(TOTALS));
+                total.totals[at] = total.totals[at].wrapping_add(r.pick(&[1, u32::MAX, 256, 0x8000_0000, 7]));
+                same_answer(&format!("check with total {at} made {}", total.totals[at]), p.check(&total), 11)?;
+                *calls += 3;
             }
             Ok(())
         });
@@ -437,7 +458,12 @@ fn checks(p: &impl Planner, report: &mut Report) {
             word.routes[at] ^= 1;
             same_answer("check", p.check(&word), 11)?;
         }
-        *calls += 10;
+        for at in [0, 1, TOTALS - 2, TOTALS - 1] {
+            let mut word = t.clone();
+            word.totals[at] ^= 1;
+            same_answer("check", p.check(&word), 11)?;
+        }
+        *calls += 14;
         Ok(())
     });
     report.case("another equal route is not the route", |calls| {
@@ -517,7 +543,7 @@ fn main() {
     report.end_group("charges");
     spoiled_tables(&p, &mut report);
     longest_routes(&p, &mut report);
-    report.end_group("spoiled pairs and routes");
+    report.end_group("spoiled pairs, routes and totals");
     wrong_lengths(&p, &mut report);
     report.end_group("wrong table lengths");
     wrong_records(&p, &mut report);

@@ -11,7 +11,7 @@ use crate::quotes::zigzag;
 use crate::random::{self, Random, FULL, STYLES};
 use crate::reader;
 use crate::reference::{Book, Place};
-use crate::tables::{pair_index, Edit, Tables, PAIRS, ROUTES};
+use crate::tables::{pair_index, Edit, Tables, PAIRS, ROUTES, SUM, TOTALS};
 use crate::{random_yard, same_answer, Report};
 use std::collections::BTreeMap;
 
@@ -361,7 +361,7 @@ fn straights(t: &Tables, run: usize) -> Vec<usize> {
     t.route(run).2.windows(2).map(|w| pair_index(w[0] as usize, w[1] as usize)).collect()
 }
 
-/// Kinds of places in pairs and routes, seen from one run: their names, and where in the tables they are.
+/// Kinds of places in pairs, routes and totals, seen from one run: their names, and where in the tables they are.
 type Kinds = Vec<(&'static str, Vec<usize>)>;
 
 fn kinds_of_pairs(t: &Tables, run: usize) -> Kinds {
@@ -397,7 +397,12 @@ fn kinds_of_words(t: &Tables, run: usize) -> Kinds {
     ]
 }
 
-/// Right tables with one byte of pairs or one word of routes changed, in a place of each kind that there is.
+fn kinds_of_totals(t: &Tables) -> Kinds {
+    let of = |named: bool| -> Vec<usize> { (0..SUM).filter(|&n| (t.totals[n] > 0) == named).collect() };
+    vec![("the total of a block that pairs name", of(true)), ("the total of a block that none names", of(false)), ("the sum", vec![SUM])]
+}
+
+/// Right tables with one byte of pairs or one word of routes or totals changed, in a place of each kind that there is.
 fn spoiled(r: &mut Random, right: &Tables, run: usize) -> Vec<(&'static str, Tables)> {
     let mut all = vec![];
     for (name, places) in kinds_of_pairs(right, run).into_iter().filter(|kind| !kind.1.is_empty()) {
@@ -408,6 +413,11 @@ fn spoiled(r: &mut Random, right: &Tables, run: usize) -> Vec<(&'static str, Tab
     for (name, places) in kinds_of_words(right, run).into_iter().filter(|kind| !kind.1.is_empty()) {
         let (mut t, at) = (right.clone(), r.pick(&places));
         t.routes[at] = t.routes[at].wrapping_add(r.pick(&[1, u32::MAX, 256, 1 << 31, 7]));
+        all.push((name, t));
+    }
+    for (name, places) in kinds_of_totals(right).into_iter().filter(|kind| !kind.1.is_empty()) {
+        let (mut t, at) = (right.clone(), r.pick(&places));
+        t.totals[at] = t.totals[at].wrapping_add(r.pick(&[1, u32::MAX, 256, 1 << 31, 7]));
         all.push((name, t));
     }
     all
@@ -449,7 +459,31 @@ fn wrong_tables(report: &mut Report) {
         }
     }
     report.case("wrong entries of every kind often enough", |_| {
-        if met.len() == 17 && met.values().all(|&n| n >= 20) { Ok(()) } else { Err(format!("{met:?}")) }
+        if met.len() == 20 && met.values().all(|&n| n >= 20) { Ok(()) } else { Err(format!("{met:?}")) }
+    });
+}
+
+/// Totals of every other length, and each word of them wrong alone.
+fn wrong_totals(report: &mut Report) {
+    let mut book = Book::new();
+    book.blocks[3] = vec![(10, 10), (20, 10), (20, 20), (10, 20)];
+    book.runs[4] = vec![(0, 15), (30, 15)];
+    let right = book.drawing();
+    report.case("pieces over totals of every other length", |calls| {
+        (0..=60).filter(|&words| words != TOTALS).try_for_each(|words| {
+            let mut t = right.clone();
+            t.totals.resize(words, 0);
+            refused(&mut seeded(words), &t, &[(4, 1), (0, 1), (24, 1)], calls).map_err(|why| format!("{words} words: {why}"))
+        })
+    });
+    report.case("pieces over every wrong word of totals", |calls| {
+        (0..TOTALS).try_for_each(|at| {
+            [right.totals[at] + 1, right.totals[at].wrapping_sub(1), u32::MAX - 1].into_iter().try_for_each(|word| {
+                let mut t = right.clone();
+                t.totals[at] = word;
+                refused(&mut seeded(at), &t, &[(4, 11), (0, 5), (24, 3)], calls).map_err(|why| format!("word {at} made {word}: {why}"))
+            })
+        })
     });
 }
 
@@ -471,6 +505,7 @@ pub fn pieces(report: &mut Report) {
     random_yards(report);
     mazes(report);
     wrong_tables(report);
+    wrong_totals(report);
     refusals::<Drawn<false>>(report);
     refusals::<Drawn<true>>(report);
 }

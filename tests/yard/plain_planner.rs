@@ -9,7 +9,7 @@ use crate::tables::{Edit, Planner, Tables};
 pub struct Plain;
 
 fn yard(t: &mut Tables) -> plain::Yard<'_> {
-    plain::Yard { blocks: &mut t.blocks, runs: &mut t.runs, pairs: &mut t.pairs, routes: &mut t.routes }
+    plain::Yard { blocks: &mut t.blocks, runs: &mut t.runs, pairs: &mut t.pairs, routes: &mut t.routes, totals: &mut t.totals }
 }
 
 impl Planner for Plain {

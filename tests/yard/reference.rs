@@ -2,7 +2,7 @@
 //! lines, seams by points that are tried, roots by bisection, routes by correcting labels that carry their whole list of
 //! marks from the first end.
 
-use crate::tables::{pair_index, Edit, Tables, BLOCKS, FIGURE, PAIRS, ROUTES, RUNS};
+use crate::tables::{pair_index, Edit, Tables, BLOCKS, FIGURE, PAIRS, ROUTES, RUNS, TOTALS};
 use std::collections::VecDeque;
 
 pub type Place = (i64, i64);
@@ -308,7 +308,7 @@ impl Book {
     }
 
     fn drawing_with(&self, byte: impl Fn(Option<Place>, Option<Place>) -> u8, price: impl Fn(Place, Place) -> u64) -> Tables {
-        let mut t = Tables { blocks: vec![0; BLOCKS], runs: vec![0; RUNS], pairs: vec![255; PAIRS], routes: vec![0; ROUTES] };
+        let mut t = Tables { blocks: vec![0; BLOCKS], runs: vec![0; RUNS], pairs: vec![255; PAIRS], routes: vec![0; ROUTES], totals: vec![] };
         self.write_records(&mut t);
         let marks = self.marks();
         for j in 0..240 {
@@ -317,6 +317,7 @@ impl Book {
             }
         }
         self.write_routes(&mut t, price);
+        t.totals = totals(&t.pairs, &t.routes);
         t
     }
 
@@ -357,6 +358,13 @@ impl Book {
     }
 }
 
+/// For each block how many bytes of pairs are its number, then what the found routes are charged in all.
+pub fn totals(pairs: &[u8], routes: &[u32]) -> Vec<u32> {
+    let naming = (0..24u8).map(|n| pairs.iter().filter(|&&byte| byte == n).count() as u64);
+    let sum: u64 = routes.chunks(197).map(|words| if let [1, length, ..] = words { u64::from(*length) } else { 0 }).sum();
+    naming.chain([sum]).map(|count| u32::try_from(count).expect("a total of 32 bits")).collect()
+}
+
 /// The least sum of prices, then the fewest straights, then the first list of marks.
 fn best_chain(first: usize, second: usize, from: impl Fn(usize) -> Vec<(usize, u64)>) -> Option<(u64, Vec<usize>)> {
     let mut best: Vec<Option<(u64, Vec<usize>)>> = vec![None; 240];
@@ -389,7 +397,7 @@ fn best_chain(first: usize, second: usize, from: impl Fn(usize) -> Vec<(usize, u
 }
 
 fn lengths_right(t: &Tables) -> bool {
-    (t.blocks.len(), t.runs.len(), t.pairs.len(), t.routes.len()) == (BLOCKS, RUNS, PAIRS, ROUTES)
+    (t.blocks.len(), t.runs.len(), t.pairs.len(), t.routes.len(), t.totals.len()) == (BLOCKS, RUNS, PAIRS, ROUTES, TOTALS)
 }
 
 /// Question 2: the book that the stored records and figure say, if each is one that the tables allow.
@@ -429,6 +437,7 @@ pub fn edited(t: &Tables, e: &Edit) -> (u32, Tables) {
         book.write_records(&mut after);
         treat_pairs(&book, e, &mut after.pairs);
         book.write_routes(&mut after, book.price());
+        after.totals = totals(&after.pairs, &after.routes);
     }
     (answer, after)
 }

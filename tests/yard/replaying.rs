@@ -6,7 +6,7 @@ use crate::linked::replay;
 use crate::random::{Random, STYLES};
 use crate::reader::{read, HEAD, LONGEST};
 use crate::reference::{checked, edited, stored_book, Book};
-use crate::tables::{Edit, Tables, BLOCKS, FIGURE, PAIRS, ROUTES, RUNS};
+use crate::tables::{Edit, Tables, BLOCKS, FIGURE, PAIRS, ROUTES, RUNS, TOTALS};
 use crate::{random_yard, same_answer, same_tables, scramble, spoil, Report};
 
 const ANSWERS: usize = 4096;
@@ -173,12 +173,13 @@ fn over_wrong_tables(report: &mut Report) {
                 0 => spoil(&mut r, &mut t),
                 1 => scramble(&mut r, &mut t),
                 _ => {
-                    let other = |right: usize| [0, 1, right / 2, right - 1, right + 1, 2 * right][seed as usize / 12 % 6];
-                    match seed / 3 % 4 {
+                    let other = |right: usize| [0, 1, right / 2, right - 1, right + 1, 2 * right][seed as usize / 15 % 6];
+                    match seed / 3 % 5 {
                         0 => t.blocks.resize(other(BLOCKS), 0),
                         1 => t.runs.resize(other(RUNS), 0),
                         2 => t.pairs.resize(other(PAIRS), 255),
-                        _ => t.routes.resize(other(ROUTES), 0),
+                        3 => t.routes.resize(other(ROUTES), 0),
+                        _ => t.totals.resize(other(TOTALS), 0),
                     }
                 }
             }
@@ -223,9 +224,29 @@ fn over_wrong_figures(report: &mut Report) {
     }
 }
 
+/// Totals of another length refuse every edit; the replay itself answers for the file.
+fn over_wrong_totals(report: &mut Report) {
+    report.case("replay over totals of every other length", |calls| {
+        let (_, right) = random_yard(&mut Random::new(5), &STYLES[1], 30);
+        let file = file(&[Edit::SetCharge(0), Edit::RemoveBlock(24), Edit::SetCharge(1001)]);
+        for words in (0..=60).filter(|&words| words != TOTALS) {
+            let mut t = right.clone();
+            t.totals.resize(words, 7);
+            let lent = Lent::new(&mut Random::new(6), t, ANSWERS, 2);
+            if lent.due(&file).1.answers[..3] != [1; 3] {
+                return Err("the second planner takes an edit".to_string());
+            }
+            let (number, _) = lent.call(&file, calls)?;
+            same_answer(&format!("{words} words of totals"), number, 0)?;
+        }
+        Ok(())
+    });
+}
+
 pub fn replaying(report: &mut Report) {
     known(report);
     over_wrong_figures(report);
+    over_wrong_totals(report);
     longest(report);
     over_right_tables(report);
     over_wrong_tables(report);
