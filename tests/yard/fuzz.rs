@@ -4,11 +4,11 @@
 use crate::degenerate;
 use crate::random::{self, Random};
 use crate::tables::Planner;
-use crate::{charges, random_list, seams, Report};
+use crate::{charges, random_list, seams, totals, Report};
 use std::time::{Duration, Instant};
 
 fn one(p: &impl Planner, k: u64, r: &mut Random, calls: &mut usize) -> Result<(), String> {
-    match k % 8 {
+    match k % 9 {
         0 => degenerate::one(p, r, calls),
         #[cfg(not(plain))]
         1 => crate::replaying::one(r, calls),
@@ -20,6 +20,7 @@ fn one(p: &impl Planner, k: u64, r: &mut Random, calls: &mut usize) -> Result<()
         4 => crate::pieces::one(r, calls),
         5 => seams::one(p, r, calls),
         6 => charges::one(p, r, calls),
+        7 => totals::one(p, r, calls),
         _ => {
             let s = random::any_style(r);
             let edits = random::list(r, &s, 60);

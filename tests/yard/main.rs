@@ -41,6 +41,7 @@ mod replaying;
 mod seams;
 #[path = "../../bindings/tables.rs"]
 mod tables;
+mod totals;
 mod trials;
 
 use random::{Random, Style, FULL, STYLES};
@@ -541,6 +542,8 @@ fn main() {
     report.end_group("seams");
     charges::charges(&p, &mut report);
     report.end_group("charges");
+    totals::totals(&p, &mut report);
+    report.end_group("totals");
     spoiled_tables(&p, &mut report);
     longest_routes(&p, &mut report);
     report.end_group("spoiled pairs, routes and totals");
