@@ -22,6 +22,17 @@ static void print_route(unsigned m) {
     }
 }
 
+/* What a panel's front page shows and need not add up: the length of all runs, and the block that most pairs name. */
+static void print_totals(void) {
+    unsigned most = 0;
+    for (unsigned n = 1; n < YARD_TOTALS_SUM; n++) {
+        if (yard.totals[n] > yard.totals[most]) most = n;
+    }
+    printf("runs of %" PRIu32 " cm in all", yard.totals[YARD_TOTALS_SUM]);
+    if (yard.totals[most] > 0) printf(", %" PRIu32 " pairs name block %u", yard.totals[most], most);
+    printf("\n");
+}
+
 static void edit_by_calls(void) {
     static const uint16_t square[] = {10, 10, 20, 10, 20, 20, 10, 20};
     static const uint16_t star[] = {10, 0, 16, 20, 0, 8, 20, 8, 4, 20};
@@ -30,10 +41,15 @@ static void edit_by_calls(void) {
     answer("add block 0", yard_add_block(YARD_TABLES(&yard), 0, square, LENGTH(square)));
     answer("add run 0", yard_add_run(YARD_TABLES(&yard), 0, 0, 15, 30, 15));
     print_route(0);
+    answer("add run 1", yard_add_run(YARD_TABLES(&yard), 1, 0, 0, 3, 4));
+    print_totals();
+    answer("remove run 1", yard_remove_run(YARD_TABLES(&yard), 1));
+    print_totals();
 
     /* Fitters charge each straight as at least so many centimetres. */
     answer("set the least charge to 15", yard_set_charge(YARD_TABLES(&yard), 15));
     print_route(0);
+    print_totals();
     answer("set the least charge to 1001", yard_set_charge(YARD_TABLES(&yard), 1001));
     printf("the least charge is %u\n", yard.runs[YARD_CHARGE_AT]);
     answer("set the least charge to 0", yard_set_charge(YARD_TABLES(&yard), 0));
@@ -51,13 +67,23 @@ static void edit_by_calls(void) {
 
     answer("move run 0 to start inside the block", yard_move_run(YARD_TABLES(&yard), 0, 15, 18, 30, 15));
     print_route(0);
+    print_totals();
     answer("remove block 0", yard_remove_block(YARD_TABLES(&yard), 0));
     print_route(0);
+    print_totals();
     answer("check", yard_check(YARD_TABLES(&yard)));
+
+    /* Wrong totals are told by the check, and made right by the next edit, whatever it is. */
+    yard.totals[YARD_TOTALS_SUM]++;
+    answer("check after a total was changed", yard_check(YARD_TABLES(&yard)));
+    answer("set the least charge to 0", yard_set_charge(YARD_TABLES(&yard), 0));
+    answer("check", yard_check(YARD_TABLES(&yard)));
+
     yard.pairs[0] = 0;
     answer("check after a byte was changed", yard_check(YARD_TABLES(&yard)));
-    answer("check with a short table", yard_check(yard.blocks, YARD_BLOCKS_LEN - 1, yard.runs, YARD_RUNS_LEN,
-                                                  yard.pairs, YARD_PAIRS_LEN, yard.routes, YARD_ROUTES_LEN));
+    answer("check with a short table",
+           yard_check(yard.blocks, YARD_BLOCKS_LEN - 1, yard.runs, YARD_RUNS_LEN, yard.pairs, YARD_PAIRS_LEN,
+                      yard.routes, YARD_ROUTES_LEN, yard.totals, YARD_TOTALS_LEN));
 }
 
 static const uint8_t file[] = {
