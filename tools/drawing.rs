@@ -125,6 +125,11 @@ impl Frame {
         places.iter().map(|&p| self.place(p)).collect()
     }
 
+    /// A length on the ground, in metres but on a page that shows very little of it.
+    fn length(&self, cm: u32) -> String {
+        if self.scale >= 20_000 { format!("{}.{:02} m", cm / 100, cm % 100) } else { format!("{cm} cm") }
+    }
+
     fn scale_text(&self) -> String {
         if self.scale >= 1000 {
             format!("1 : {}", figure(self.scale as f64 / 1000.0))
@@ -184,6 +189,9 @@ pub fn head(svg: &mut Svg, frame: &Frame, name: &str, yard: &Yard, note: Option<
     let mut line = format!("{}, {}", counted(yard.blocks.len(), "block"), counted(yard.runs.len(), "run"));
     if lost > 0 {
         write!(line, " ({lost} with no way)").unwrap();
+    }
+    if lost < yard.runs.len() {
+        write!(line, ", {} in all", frame.length(yard.sum)).unwrap();
     }
     write!(line, "; {}", counted(yard.edits, "edit")).unwrap();
     if yard.refused > 0 {
@@ -353,7 +361,6 @@ pub fn set_numbers(svg: &mut Svg, yard: &Yard, boxes: &[Box]) {
 
 pub fn svg(name: &str, yard: &Yard) -> String {
     let frame = Frame::new(yard);
-    let large = frame.scale >= 20_000;
     let mut svg = sheet(&frame, name, &[]);
     head(&mut svg, &frame, name, yard, None);
 
@@ -363,8 +370,7 @@ pub fn svg(name: &str, yard: &Yard) -> String {
         .iter()
         .map(|r| match r.length {
             None => format!("run {}: no way", r.number),
-            Some(cm) if large => format!("run {}: {}.{:02} m", r.number, cm / 100, cm % 100),
-            Some(cm) => format!("run {}: {cm} cm", r.number),
+            Some(cm) => format!("run {}: {}", r.number, frame.length(cm)),
         })
         .collect();
     let endings = endings(&frame, yard);

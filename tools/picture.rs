@@ -18,6 +18,8 @@ use yards::{Place, Replayed, Stop};
 pub struct Yard {
     pub blocks: Vec<(usize, Vec<Place>)>,
     pub runs: Vec<Run>,
+    /// The sum of the lengths of found runs.
+    pub sum: u32,
     /// The least charge of a straight.
     pub figure: u16,
     pub edits: usize,
@@ -49,7 +51,7 @@ fn drawn(yard: &Replayed) -> Yard {
         }
     };
     let runs = (0..24).filter(|&m| t.route(m).0 != 0).map(run).collect();
-    Yard { blocks, runs, figure: t.figure(), edits: yard.edits, refused: yard.refused, stop: yard.stop }
+    Yard { blocks, runs, sum: t.sum(), figure: t.figure(), edits: yard.edits, refused: yard.refused, stop: yard.stop }
 }
 
 /// The picture of a file, with the duct of one run if that is wanted.

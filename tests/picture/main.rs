@@ -121,6 +121,11 @@ fn scale(all: &[Element]) -> Result<f64, String> {
     Ok(10.0 * number(page)? / number(ground)?)
 }
 
+/// A length as the page writes it: in metres from a scale of 1 : 20 on.
+fn length(cm: u32, all: &[Element]) -> Result<String, String> {
+    Ok(if scale(all)? <= 0.5 { format!("{}.{:02} m", cm / 100, cm % 100) } else { format!("{cm} cm") })
+}
+
 /// The points that a run's line must go through: its ends and the nine points of each bend between them.
 fn line(book: &Book, drawing: &Tables, run: usize) -> Vec<(f64, f64)> {
     let end = |k: usize| (book.runs[run][k].0 as f64, book.runs[run][k].1 as f64);
@@ -167,10 +172,11 @@ fn said(file: &[u8], all: &[Element], duct: Option<u32>) -> Result<(), String> {
     let runs: Vec<usize> = (0..24).filter(|&m| drawing.route(m).0 != 0).collect();
     let lost = runs.iter().filter(|&&m| drawing.route(m).0 == 2).count();
     let blocks = book.blocks.iter().filter(|b| !b.is_empty()).count();
+    let sum = if lost == runs.len() { String::new() } else { format!(", {} in all", length(drawing.sum(), all)?) };
     let lost = if lost > 0 { format!(" ({lost} with no way)") } else { String::new() };
     let refused = if refused > 0 { format!(", {refused} refused") } else { String::new() };
     let charge = if book.figure > 0 { format!("; least charge {} cm", book.figure) } else { String::new() };
-    let note = format!("{}, {}{lost}; {}{refused}{charge}", counted(blocks, "block"), counted(runs.len(), "run"), counted(edits.len(), "edit"));
+    let note = format!("{}, {}{lost}{sum}; {}{refused}{charge}", counted(blocks, "block"), counted(runs.len(), "run"), counted(edits.len(), "edit"));
     let best = if book.figure > 0 { "cheapest" } else { "shortest" };
     let key = duct.map_or(format!("run: its {best} route, numbered at both ends"), |_| format!("the run's {best} route, for comparison"));
     for due in [note, key] {
@@ -197,9 +203,9 @@ fn said(file: &[u8], all: &[Element], duct: Option<u32>) -> Result<(), String> {
     lines_right(&book, &drawing, &runs, "route", all)?;
     for m in runs {
         let (state, cm, marks) = drawing.route(m);
-        let long = [format!("run {m}: {cm} cm"), format!("run {m}: {}.{:02} m", cm / 100, cm % 100)];
+        let long = format!("run {m}: {}", length(cm, all)?);
         let found = match state {
-            1 => texts(all, "label").any(|t| long.iter().any(|l| l == t)),
+            1 => texts(all, "label").any(|t| t == long),
             _ => texts(all, "label lost").any(|t| t == format!("run {m}: no way")),
         };
         if !found {
