@@ -246,33 +246,38 @@ fn print_table(counts: &Counts) {
     println!("steps, Graphviz {GRAPHVIZ_ROUNDS} of {GRAPHVIZ_STEPS}). Instructions: thousands, by callgrind inside the call. Plain: the same algorithm in safe Rust.");
     println!("Redraw: the plain one drawing all pairs and routes from nothing. Graphviz: Pobsopen and a Pobspath for each run, disjoint blocks and plain lengths only.");
     println!();
-    println!("{:<13} {:>6} |{:^34}|{:^54}", "", "", "time", "instructions");
+    println!("{:<13} {:>6} |{:^34}|{:^61}", "", "", "time", "instructions");
     println!(
-        "{:<13} {:>6} |{:>8} {:>7} {:>7} {:>9}|{:>8} {:>8} {:>8} {:>8} {:>8} {:>9}",
-        "yard", "blocks", "ours", "plain", "redraw", "Graphviz", "ours", "pairs", "routes", "plain", "redraw", "Graphviz"
+        "{:<13} {:>6} |{:>8} {:>7} {:>7} {:>9}|{:>8} {:>8} {:>8} {:>6} {:>8} {:>8} {:>9}",
+        "yard", "blocks", "ours", "plain", "redraw", "Graphviz", "ours", "pairs", "routes", "totals", "plain", "redraw", "Graphviz"
     );
     for g in &YARDS {
         let [ours, plain, nothing] = times(g);
-        let (count, routes) = (counts.of("proved", g), counts.of("routes", g));
+        let (count, routes, totals) = (counts.of("proved", g), counts.of("routes", g), counts.of("totals", g));
         let thousands = |v: Option<f64>| show(v.map(|v| v / 1000.0), 0);
         println!(
-            "{:<13} {:>6} |{ours:>8.0} {:>7.2} {:>7.2} {:>9}|{:>8} {:>8} {:>8} {:>8} {:>8} {:>9}",
+            "{:<13} {:>6} |{ours:>8.0} {:>7.2} {:>7.2} {:>9}|{:>8} {:>8} {:>8} {:>6} {:>8} {:>8} {:>9}",
             g.name,
             g.blocks,
             plain / ours,
             nothing / ours,
             show(graphviz_time(g).map(|t| t / ours), 1),
             thousands(count),
-            thousands(count.zip(routes).map(|(a, b)| a - b)),
+            thousands(count.zip(routes).map(|(a, b)| a - b - totals.unwrap_or(0.0))),
             thousands(routes),
+            thousands(totals),
             thousands(counts.of("plain", g)),
             thousands(counts.of("redraw", g)),
             thousands(counts.of("graphviz", g)),
         );
     }
     println!();
+    if let Some((totals, count)) = counts.of("totals", &FULL).zip(counts.of("proved", &FULL)) {
+        let share = 100.0 * totals / count;
+        println!("Totals take {:.1} of the {:.0} thousand instructions of a step of the drag yard, {share:.1} %.", totals / 1000.0, count / 1000.0);
+    }
     let sums: Vec<String> = YARDS.iter().filter_map(|g| Some(format!("{} ({})", g.sum?, g.name))).collect();
-    println!("After each drag the tables of ours, plain and redraw are the same bytes; summed lengths {}.", sums.join(", "));
+    println!("After each drag the tables of ours, plain and redraw are the same bytes; summed lengths, from totals, {}.", sums.join(", "));
     if graphviz::INSTALLED {
         println!("Graphviz's lengths, unrounded, are at most ours, and ours at most a centimetre more for each of its straights.");
     }
