@@ -1,4 +1,4 @@
-// Replays the edits of a yard file over four tables that the caller lends.
+// Replays the edits of a yard file over five tables that the caller lends.
 ghost use mathlib.Core.Path.{_≡_};
 ghost use Prim.Native.Nat.{_≤_};
 ghost use lib.ListN.{length};

@@ -1,4 +1,4 @@
-// The layout of the four tables: marks, their places, and where the byte of two marks stands.
+// The layout of the tables: marks, their places, and where the byte of two marks stands.
 ghost use mathlib.Core.Path.{_≡_};
 ghost use Prim.Native.Nat.{_+_, _*_, _<_};
 ghost use lib.ListN.{length};
