@@ -135,6 +135,10 @@ module _ (p : Program) (m : Meets p) where
       let T = p .leaves (run 0 0) miscounted in
       omega (arith, f (run 0 0) miscounted z, ap (λ (t : List ℕ). word t k) (e .totals), totals-count (T .pairs) (T .routes) k l, count-few k (T .pairs), e .pairs .sized, word-replicate 25 k 28681 (omega arith))
 
+  -- refuses an edit and writes totals
+  pub refused-totals : (e : Edit) (T : Tables) → (p .number e T ≡ 0 → ⊥) → p .leaves e T .totals ≡ T .totals
+  refused-totals e T n = ap (λ (U : Tables). U .totals) (m e T .refused n)
+
   -- takes a length or a count from the air: what it stores of a route is the sum along the marks that it stores, so many of them, and they are a chain
   pub from-the-chain : (es : List Edit) (k : ℕ) → k < 24 → (ws : List ℕ) → routeWords (yard p es .routes) k ≡ ws → word ws 0 ≡ 1
       → Chain (graph (records (yard p es)) (ByPlaces (records (yard p es)))) (secondEnd k) (firstEnd k) (take (word ws 2) (drop 3 ws))

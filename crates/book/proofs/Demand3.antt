@@ -136,7 +136,7 @@ figure-drawn b T T′ f d e =
       blocks = λ n c. rw (e .blocks) (d .blocks n c);
       runs = λ m c. figure-runs (records T) (records T′) f (e .blocks) (e .runs) m c ∙ d .runs m c;
       figure = figure-here (records T) (records T′) f (e .blocks) (e .runs) (omega (arith, d .sizes .1));
-      right = record { pairs = rw (e .pairs) pairs; routes = λ m c. route-right (records T′) (T .pairs) pairs m _ c (e .routes .each m c); totals = rw (e .pairs) (e .totals) };
+      right = record { pairs = rw (e .pairs) pairs; routes = λ m c. route-right (records T′) (T .pairs) pairs m _ c (e .routes .each m c); totals = e .totals };
     }
   where
     same : (i : ℕ) → i < 240 → Same (records T) (records T′) i

@@ -20,7 +20,7 @@ totals-follow e T T′ c = go (target e) _ (c .done refl)
     go : (t : Target) (ps : List Point) → Edited t T ps T′ → T′ .totals ≡ totalsOf (T′ .pairs) (T′ .routes)
     go (theBlock n) ps x = x .totals
     go (theRun m) ps x = x .totals
-    go (theFigure f) ps x = rw (x .pairs) (x .totals)
+    go (theFigure f) ps x = x .totals
 
 -- ---- 25 other words in their place: the same answer, and the same tables after an accepted edit
 module _ (T : Tables) (t : List ℕ) (same : length t ≡ length (T .totals)) where

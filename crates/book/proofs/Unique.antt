@@ -63,7 +63,7 @@ edited-unique (theRun m) T ps T₁ T₂ e f =
     tables-same T₁ T₂ (e .blocks ∙ sym (f .blocks)) (e .runs ∙ sym (f .runs))
     (λ s. runRedrawn-unique (records T₂) m (T .pairs) (T₁ .pairs) (T₂ .pairs) (rw s at (e .pairs)) (f .pairs)) (e .routes) (f .routes) (e .totals) (f .totals)
 edited-unique (theFigure k) T ps T₁ T₂ e f =
-    tables-same T₁ T₂ (e .blocks ∙ sym (f .blocks)) (e .runs ∙ sym (f .runs)) (λ s. e .pairs ∙ sym (f .pairs)) (rw (e .pairs) (e .routes)) (rw (f .pairs) (f .routes)) (rw (e .pairs) (e .totals)) (rw (f .pairs) (f .totals))
+    tables-same T₁ T₂ (e .blocks ∙ sym (f .blocks)) (e .runs ∙ sym (f .runs)) (λ s. e .pairs ∙ sym (f .pairs)) (rw (e .pairs) (e .routes)) (rw (f .pairs) (f .routes)) (e .totals) (f .totals)
 
 pub called-unique : (e : Edit) (T : Tables) (r r′ : ℕ) (T₁ T₂ : Tables) → Called e T r T₁ → Called e T r′ T₂ → (r ≡ r′) × (T₁ ≡ T₂)
 called-unique e T r r′ T₁ T₂ c d = (same-answer, go (ℕ-discrete r 0))

@@ -55,7 +55,7 @@ pub record FigureEdited (T : Tables) (f : ℕ) (T′ : Tables) : Type 0 where
   pub runs : T′ .runs ≡ set (T .runs) 120 f
   pub pairs : T′ .pairs ≡ T .pairs
   pub routes : Routed (records T′) (T .pairs) (T′ .routes)
-  pub totals : T′ .totals ≡ totalsOf (T .pairs) (T′ .routes)
+  pub totals : T′ .totals ≡ totalsOf (T′ .pairs) (T′ .routes)
 
 -- what an accepted edit leaves where it writes the places ps
 abbrev pub Edited : Target → Tables → List Point → Tables → Type 0
