@@ -308,6 +308,20 @@ fn every_edit(r: &mut Random) -> Vec<Edit> {
     ]
 }
 
+/// Tables of wrong lengths: every call answers 1 and changes nothing.
+fn all_answer_one(p: &impl Planner, r: &mut Random, mut t: Tables, calls: &mut usize) -> Result<(), String> {
+    let before = t.clone();
+    for e in every_edit(r) {
+        *calls += 1;
+        same_answer(&format!("{e:?}"), p.edit(&mut t, &e), 1)?;
+        same_tables(&format!("{e:?}"), &t, &before)?;
+    }
+    *calls += 2;
+    same_answer("check", p.check(&t), 1)?;
+    same_answer("start", p.start(&mut t), 1)?;
+    same_tables("start", &t, &before)
+}
+
 fn wrong_lengths(p: &impl Planner, report: &mut Report) {
     let lengths = |right: usize| [0, 1, right / 2, right - 1, right + 1, right + 17, 2 * right];
     for seed in 0..35u64 {
@@ -326,35 +340,17 @@ fn wrong_lengths(p: &impl Planner, report: &mut Report) {
             if r.percent(50) && !t.blocks.is_empty() {
                 t.blocks[0] = 9;
             }
-            let before = t.clone();
-            for e in every_edit(&mut r) {
-                *calls += 1;
-                same_answer(&format!("{e:?}"), p.edit(&mut t, &e), 1)?;
-                same_tables(&format!("{e:?}"), &t, &before)?;
-            }
-            *calls += 2;
-            same_answer("check", p.check(&t), 1)?;
-            same_answer("start", p.start(&mut t), 1)?;
-            same_tables("start", &t, &before)
+            all_answer_one(p, &mut r, t, calls)
         });
     }
     report.case("all five empty", |calls| {
-        let mut t = Tables { blocks: vec![], runs: vec![], pairs: vec![], routes: vec![], totals: vec![] };
-        for e in every_edit(&mut Random::new(1)) {
-            *calls += 1;
-            same_answer(&format!("{e:?}"), p.edit(&mut t, &e), 1)?;
-        }
-        same_answer("check", p.check(&t), 1)?;
-        same_answer("start", p.start(&mut t), 1)
+        let t = Tables { blocks: vec![], runs: vec![], pairs: vec![], routes: vec![], totals: vec![] };
+        all_answer_one(p, &mut Random::new(1), t, calls)
     });
     report.case("two lengths exchanged", |calls| {
         let mut t = Book::new().drawing();
         std::mem::swap(&mut t.blocks, &mut t.runs);
-        for e in every_edit(&mut Random::new(2)) {
-            *calls += 1;
-            same_answer(&format!("{e:?}"), p.edit(&mut t, &e), 1)?;
-        }
-        same_answer("check", p.check(&t), 1)
+        all_answer_one(p, &mut Random::new(2), t, calls)
     });
 }
 

@@ -5,7 +5,7 @@
 use crate::random::{self, Random, Style, FULL, STYLES};
 use crate::reference::{self, Book};
 use crate::tables::{pair_index, Edit, Planner, Tables, FIGURE, PAIRS, SUM, TOTALS};
-use crate::{every_edit, random_yard, same_answer, same_tables, spoil_totals, started, Report};
+use crate::{all_answer_one, random_yard, same_answer, same_tables, spoil_totals, started, Report};
 use std::collections::BTreeMap;
 
 /// A recount of tables as they stand: every byte of pairs under its value, of which the first 24 are blocks; and the
@@ -423,16 +423,7 @@ fn wrong_lengths(p: &impl Planner, report: &mut Report) {
             let (_, mut t) = random_yard(&mut r, &STYLES[1], 30);
             t.totals.resize(words, 7);
             t.runs[FIGURE] = r.pick(&[0, 0, 1000, 1001]);
-            let before = t.clone();
-            for e in every_edit(&mut r) {
-                *calls += 1;
-                same_answer(&format!("{e:?}"), p.edit(&mut t, &e), 1)?;
-                same_tables(&format!("{e:?}"), &t, &before)?;
-            }
-            *calls += 2;
-            same_answer("check", p.check(&t), 1)?;
-            same_answer("start", p.start(&mut t), 1)?;
-            same_tables("start", &t, &before)
+            all_answer_one(p, &mut r, t, calls)
         });
     }
 }
