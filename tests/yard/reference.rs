@@ -360,9 +360,10 @@ impl Book {
 
 /// For each block how many bytes of pairs are its number, then what the found routes are charged in all.
 pub fn totals(pairs: &[u8], routes: &[u32]) -> Vec<u32> {
-    let naming = (0..24u8).map(|n| pairs.iter().filter(|&&byte| byte == n).count() as u64);
+    let mut naming = [0; 24];
+    pairs.iter().filter(|&&byte| byte < 24).for_each(|&byte| naming[byte as usize] += 1);
     let sum: u64 = routes.chunks(197).map(|words| if let [1, length, ..] = words { u64::from(*length) } else { 0 }).sum();
-    naming.chain([sum]).map(|count| u32::try_from(count).expect("a total of 32 bits")).collect()
+    naming.into_iter().chain([u32::try_from(sum).expect("a sum of 32 bits")]).collect()
 }
 
 /// The least sum of prices, then the fewest straights, then the first list of marks.
