@@ -1,17 +1,17 @@
 -- The edit that a record asks for, by its kind.
 use mathlib.Core.Path.{_≡_}
 use mathlib.Core.List.{List}
-use Prim.Native.Nat.{ℕ, _+_, _*_, _≤_}
+use Prim.Native.Nat.{ℕ, _+_, _≤_}
 use native.Mathlib.Omega.{arith}
 use Rattle.tables.specs.Tables.{Tables}
 use Rattle.book.specs.Book.{addBlock, removeBlock, moveBlock, addRun, removeRun, moveRun, setCharge}
 use Rattle.book.specs.Edits.{Called}
 use Rattle.yardfile.specs.declared.Item.{Item}
-use Rattle.yardfile.specs.File.{byte, field, displacement, fieldsFrom}
+use Rattle.file_words.specs.Words.{field, displacement, cornerWords}
 use Rattle.fields.specs.Asked.{placeIn, editOf}
 
 module _ (f : List ℕ) (i : Item) (T T′ : Tables) (r : ℕ) where
-  pub edit-one : i .kind ≡ 1 → Called (addBlock (i .number) (fieldsFrom f (i .fields + 1) (2 * byte f (i .fields)))) T r T′ → Called (editOf f i) T r T′
+  pub edit-one : i .kind ≡ 1 → Called (addBlock (i .number) (cornerWords f (i .fields))) T r T′ → Called (editOf f i) T r T′
   unfolding editOf
   edit-one k c = rw k c
 

@@ -1,21 +1,23 @@
 // The edits whose arguments stand in a yard file: the fields at a position, read and handed to the call.
 ghost use mathlib.Core.Path.{_≡_};
-ghost use Prim.Native.Nat.{_+_, _*_, _≤_};
-ghost use lib.ListN.{length, take};
+ghost use Prim.Native.Nat.{_+_, _≤_};
+ghost use lib.ListN.{length};
 ghost use Rattle.geometry.specs.Words.{pointOf};
 ghost use Rattle.tables.specs.Tables.{tables};
 ghost use Rattle.book.specs.Book.{addBlock, moveBlock, addRun, moveRun, setCharge};
 ghost use Rattle.book.specs.Edits.{Called};
-ghost use Rattle.yardfile.specs.File.{byte, field, displacement, fieldsFrom};
+ghost use Rattle.file_words.specs.Words.{byte, blockSize, field, displacement, cornerWords};
 ghost use Rattle.fields.specs.Asked.{placeIn};
 use block_edits::add_block;
 use block_edits::move_block;
 use charge_edits::set_charge;
+use file_words::byte_at;
+use file_words::corner_words;
+use file_words::displacement;
+use file_words::field;
 use geometry::Place;
 use run_edits::add_run;
 use run_edits::move_run;
-use yardfile::displacement;
-use yardfile::field;
 
 // The place whose two coordinates stand at a position.
 fn place_in(file: &[u8], at: usize) -> Place
@@ -25,20 +27,6 @@ fn place_in(file: &[u8], at: usize) -> Place
     let east = field(file, at);
     let north = field(file, at + 2);
     Place { east, north }
-}
-
-// The first n words are the n fields from a position on.
-fn words_from(file: &[u8], at: usize, n: usize) -> [u16; 510]
-    requires { ⌜ (at + 2 * n ≤ length (now file)) × (n ≤ 510) ⌝ }
-    ensures { λ r. ⌜ take n r ≡ fieldsFrom (now (file .entry)) at n ⌝ }
-{
-    let mut words = [0u16; 510];
-    let mut i = 0;
-    while i < n {
-        words[i] = field(file, at + 2 * i);
-        i += 1;
-    }
-    words
 }
 
 // Adds the block whose count byte stands at a position.
@@ -52,13 +40,13 @@ pub fn add_block_at(
     totals: &mut [u32],
     number: u32,
 ) -> u32
-    requires { ⌜ (at + 1 + 4 * byte (now file) at ≤ length (now file)) × (length (now file) ≤ 8192) ⌝ }
-    ensures { λ r. ⌜ Called (addBlock number (fieldsFrom (now (file .entry)) (at + 1) (2 * byte (now (file .entry)) at)))
+    requires { ⌜ (at + blockSize (byte (now file) 3) (byte (now file) at) ≤ length (now file)) × (length (now file) ≤ 8192) ⌝ }
+    ensures { λ r. ⌜ Called (addBlock number (cornerWords (now (file .entry)) at))
         (tables (now (blocks .entry)) (now (runs .entry)) (now (pairs .entry)) (now (routes .entry)) (now (totals .entry)))
         r (tables (now (blocks .exit)) (now (runs .exit)) (now (pairs .exit)) (now (routes .exit)) (now (totals .exit))) ⌝ }
 {
-    let n = 2 * (file[at] as usize);
-    let words = words_from(file, at + 1, n);
+    let n = 2 * (byte_at(file, at) as usize);
+    let words = corner_words(file, at);
     add_block(blocks, runs, pairs, routes, totals, number, &words[..n])
 }
 

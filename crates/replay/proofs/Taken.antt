@@ -2,32 +2,22 @@
 use mathlib.Core.Path.{_≡_, refl, sym, ap, _∙_}
 use mathlib.Core.List.{List, [], _∷_}
 use mathlib.Core.Bool.{Bool, true, false, _&&_, cond}
-use Prim.Native.Nat.{ℕ, _+_, _≤_}
+use Prim.Native.Nat.{ℕ, _+_, _*_, _≤_}
 use native.Mathlib.Omega.{arith}
 use lib.Dec.{leb, eqb}
 use lib.ListN.{length}
 use types.Run.{OneOf, miss}
-use borrow.Author.Tests.{leb-true, ne-eqb}
-use Rattle.lists.proofs.Every.{both}
+use borrow.Author.Tests.{ne-eqb}
 use denote.Enum.Declared.{tagOf}
 use Rattle.yardfile.specs.declared.Item.{Item}
 use Rattle.yardfile.specs.declared.Reading.{Reading}
 use Rattle.yardfile.specs.declared.Reading.the-variants.{Found, End, Refused}
-use Rattle.yardfile.specs.File.{byte, headRight, bodySize, kindRight, recordWhole, readAt, numberOf}
-use Rattle.yardfile.proofs.Cases.{head-small, whole-fits, body-block, body-move, body-ends, body-new-ends, body-figure}
+use Rattle.file_words.specs.Words.{byte}
+use Rattle.yardfile.specs.File.{headRight, plainWords, bodySize, recordWhole, cornersRight, itemAt, readAt, numberOf}
+use Rattle.yardfile.proofs.Cases.{head-small, whole-kind, whole-fits, body-block, body-fields, plain-three, plain-four, plain-six, plain-seven}
 use Rattle.yardfile.proofs.Reading as R
 use Rattle.replay.specs.Replay.{Reads, atEnd, atStop, stopAt}
 use Rattle.apply.specs.inner.Whole.{Whole}
-
-whole-kind : (f : List ℕ) (at : ℕ) → recordWhole f at ≡ true → (1 ≤ byte f at) × (byte f at ≤ 7)
-unfolding recordWhole
-whole-kind f at h =
-    let third : Bool = cond (eqb (byte f at) 1) (leb (at + 3) (length f)) true in
-    let h₁ = both (kindRight (byte f at) && leb (at + 2) (length f) && third) (leb (at + 2 + bodySize f at) (length f)) h in
-    let h₂ = both (kindRight (byte f at) && leb (at + 2) (length f)) third (h₁ .0) in
-    let h₃ = both (kindRight (byte f at)) (leb (at + 2) (length f)) (h₂ .0) in
-    let h₄ = both (leb 1 (byte f at)) (leb (byte f at) 7) (h₃ .0) in
-    (leb-true 1 _ (h₄ .0), leb-true _ 7 (h₄ .1))
 
 pub record Taken (f : List ℕ) (at : ℕ) (i : Item) : Type 0 where
   pub small : length f ≤ 8192
@@ -38,19 +28,19 @@ pub record Taken (f : List ℕ) (at : ℕ) (i : Item) : Type 0 where
   pub fields : i .fields ≡ at + 2
   pub next : i .next ≡ at + 2 + bodySize f at
 
-picked : (h b e w : Bool) (r i : Item) → cond h (cond b (cond e End (cond w (Found r) (Refused 10))) (Refused 10)) (Refused 9) ≡ Found i
+picked : (h b e w t : Bool) (r i : Item) → cond h (cond b (cond e End (cond w (cond t (Found r) (Refused 22)) (Refused 10))) (Refused 10)) (Refused 9) ≡ Found i
     → (h ≡ true) × (w ≡ true) × (r ≡ i)
-picked true true false true r i q = (refl, refl, cc)
-picked true true false false r i q = let z : _≡_ {A = ℕ} 0 1 = cc in absurd (omega arith)
-picked true true true w r i q = let z : _≡_ {A = ℕ} 0 1 = cc in absurd (omega arith)
-picked true false e w r i q = let z : _≡_ {A = ℕ} 0 1 = cc in absurd (omega arith)
-picked false b e w r i q = let z : _≡_ {A = ℕ} 0 1 = cc in absurd (omega arith)
+picked true true false true true r i q = (refl, refl, cc)
+picked true true false true false r i q = let z : _≡_ {A = ℕ} 0 1 = cc in absurd (omega arith)
+picked true true false false t r i q = let z : _≡_ {A = ℕ} 0 1 = cc in absurd (omega arith)
+picked true true true w t r i q = let z : _≡_ {A = ℕ} 0 1 = cc in absurd (omega arith)
+picked true false e w t r i q = let z : _≡_ {A = ℕ} 0 1 = cc in absurd (omega arith)
+picked false b e w t r i q = let z : _≡_ {A = ℕ} 0 1 = cc in absurd (omega arith)
 
 pub taken : (f : List ℕ) (at : ℕ) (i : Item) → readAt f at ≡ Found i → Taken f at i
 unfolding readAt
 taken f at i h =
-    let p = picked (headRight f) (leb 5 at && leb at (length f)) (eqb at (length f)) (recordWhole f at)
-    (record { kind = byte f at; number = byte f (at + 1); fields = at + 2; next = at + 2 + bodySize f at }) i h in
+    let p = picked (headRight f) (leb 5 at && leb at (length f)) (eqb at (length f)) (recordWhole f at) (cornersRight f at) (itemAt f at) i h in
     let k = whole-kind f at (p .1) in
     record {
       small = head-small f (p .0);
@@ -68,12 +58,18 @@ taken-whole f at i t =
       small = t .small;
       low = rw (t .kind) (t .low);
       high = rw (t .kind) (t .high);
-      block = λ k. rw (t .fields) (omega (arith, t .fits, body-block f at (byte f (at + 2)) (sym (t .kind) ∙ k) refl));
-      shift = λ k. rw (t .fields) (omega (arith, t .fits, body-move f at (sym (t .kind) ∙ k)));
-      ends = λ k. rw (t .fields) (omega (arith, t .fits, body-ends f at (sym (t .kind) ∙ k)));
-      newEnds = λ k. rw (t .fields) (omega (arith, t .fits, body-new-ends f at (sym (t .kind) ∙ k)));
-      figure = λ k. rw (t .fields) (omega (arith, t .fits, body-figure f at (sym (t .kind) ∙ k)));
+      block = λ k. rw (t .fields) (omega (arith, t .fits, body-block f at (sym (t .kind) ∙ k)));
+      shift = λ k. inside 3 2 k (λ e. omega arith) (plain-three 3 refl);
+      ends = λ k. inside 4 4 k (λ e. omega arith) (plain-four 4 refl);
+      newEnds = λ k. inside 6 4 k (λ e. omega arith) (plain-six 6 refl);
+      figure = λ k. inside 7 1 k (λ e. omega arith) (plain-seven 7 refl);
     }
+  where
+    -- a record of kind k has n fields
+    inside : (k n : ℕ) → i .kind ≡ k → (k ≡ 1 → ⊥) → n ≡ plainWords k → i .fields + 2 * n ≤ length f
+    inside k n e other m =
+        let b : byte f at ≡ k = sym (t .kind) ∙ e in
+        rw (t .fields) (omega (arith, t .fits, body-fields f at n (λ z. other (sym b ∙ z)) (rw b m)))
 
 -- the second and the third case of a reading: the list of edits ends
 pub ended : (f : List ℕ) (at : ℕ) (x : Reading) → OneOf (1 ∷ 2 ∷ []) (tagOf R.the-type x) → readAt f at ≡ x

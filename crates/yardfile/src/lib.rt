@@ -1,8 +1,12 @@
-// The reader of yard files, version 1.
+// The reader of yard files, versions 1 and 2.
 ghost use mathlib.Core.Path.{_≡_};
-ghost use Prim.Native.Nat.{_+_, _*_, _<_, _≤_};
+ghost use Prim.Native.Nat.{_+_, _<_, _≤_};
 ghost use lib.ListN.{length};
-ghost use Rattle.yardfile.specs.File.{byte, headRight, bodySize, recordWhole, readAt, field, displacement};
+ghost use Rattle.yardfile.specs.File.{headRight, plainWords, bodySize, recordWhole, cornersRight, itemAt, readAt};
+use file_words::block_size;
+use file_words::byte_at;
+use file_words::corner_words;
+use file_words::inside;
 
 // A record of a yard file: its kind, its number, where its fields start, and the position after it.
 pub struct Item {
@@ -20,7 +24,7 @@ pub enum Reading {
 }
 
 // Question 9.
-fn head_right(file: &[u8]) -> bool
+pub fn head_right(file: &[u8]) -> bool
     ensures { λ r. ⌜ r ≡ headRight (now (file .entry)) ⌝ }
 {
     if file.len() < 5 {
@@ -38,48 +42,48 @@ fn head_right(file: &[u8]) -> bool
     if file[2] != 68 {
         return false;
     }
-    if file[3] != 1 {
+    if file[3] < 1 {
+        return false;
+    }
+    if 2 < file[3] {
         return false;
     }
     file[4] == 0
 }
 
-// The byte at a position, 0 past the end.
-pub fn byte_at(file: &[u8], at: usize) -> u8
-    ensures { λ r. ⌜ r ≡ byte (now (file .entry)) at ⌝ }
+// How many fields a record has that adds no block.
+pub fn plain_words(kind: u8) -> usize
+    ensures { λ r. ⌜ (r ≡ plainWords kind) × (r ≤ 4) ⌝ }
 {
-    if at < file.len() {
-        return file[at];
+    if kind == 3 {
+        return 2;
+    }
+    if kind == 4 {
+        return 4;
+    }
+    if kind == 6 {
+        return 4;
+    }
+    if kind == 7 {
+        return 1;
     }
     0
 }
 
 // How many bytes follow the kind and the number of the record at a position.
-fn body_size(file: &[u8], at: usize) -> usize
+pub fn body_size(file: &[u8], at: usize) -> usize
     requires { ⌜ (length (now file) ≤ 8192) × (at < length (now file)) ⌝ }
     ensures { λ r. ⌜ (r ≡ bodySize (now (file .entry)) at) × (r ≤ 1021) ⌝ }
 {
     let kind = file[at];
     if kind == 1 {
-        return 1 + 4 * (byte_at(file, at + 2) as usize);
+        return block_size(byte_at(file, 3), byte_at(file, at + 2));
     }
-    if kind == 3 {
-        return 4;
-    }
-    if kind == 4 {
-        return 8;
-    }
-    if kind == 6 {
-        return 8;
-    }
-    if kind == 7 {
-        return 2;
-    }
-    0
+    2 * plain_words(kind)
 }
 
 // Question 10 of the record at a position short of the end.
-fn record_whole(file: &[u8], at: usize) -> bool
+pub fn record_whole(file: &[u8], at: usize) -> bool
     requires { ⌜ (length (now file) ≤ 8192) × (at < length (now file)) ⌝ }
     ensures { λ r. ⌜ r ≡ recordWhole (now (file .entry)) at ⌝ }
 {
@@ -94,6 +98,36 @@ fn record_whole(file: &[u8], at: usize) -> bool
         return false;
     }
     at + 2 + body_size(file, at) <= file.len()
+}
+
+// Question 22 of the whole record at a position.
+fn corners_right(file: &[u8], at: usize) -> bool
+    requires { ⌜ (at + 2 + bodySize (now file) at ≤ length (now file)) × (length (now file) ≤ 8192) ⌝ }
+    ensures { λ r. ⌜ r ≡ cornersRight (now (file .entry)) at ⌝ }
+{
+    if byte_at(file, at) != 1 {
+        return true;
+    }
+    if byte_at(file, 3) != 2 {
+        return true;
+    }
+    let words = corner_words(file, at + 2);
+    let n = 2 * (byte_at(file, at + 2) as usize);
+    inside(&words[..n])
+}
+
+// The whole record at a position.
+fn item_at(file: &[u8], at: usize) -> Item
+    requires { ⌜ (at + 2 + bodySize (now file) at ≤ length (now file)) × (length (now file) ≤ 8192) ⌝ }
+    ensures { λ r. ⌜ r ≡ itemAt (now (file .entry)) at ⌝ }
+{
+    let size = body_size(file, at);
+    Item {
+        kind: file[at],
+        number: file[at + 1],
+        fields: at + 2,
+        next: at + 2 + size,
+    }
 }
 
 // What stands at a position of a yard file.
@@ -115,33 +149,10 @@ pub fn read_at(file: &[u8], at: usize) -> Reading
     if !record_whole(file, at) {
         return Reading::Refused(10);
     }
-    let size = body_size(file, at);
-    Reading::Found(Item {
-        kind: file[at],
-        number: file[at + 1],
-        fields: at + 2,
-        next: at + 2 + size,
-    })
-}
-
-// A field, low byte first.
-pub fn field(file: &[u8], at: usize) -> u16
-    requires { ⌜ at + 1 < length (now file) ⌝ }
-    ensures { λ r. ⌜ r ≡ field (now (file .entry)) at ⌝ }
-{
-    let low = file[at] as u16;
-    let high = file[at + 1] as u16;
-    low + 256 * high
-}
-
-// A displacement, from two's complement.
-pub fn displacement(v: u16) -> i16
-    ensures { λ r. ⌜ r ≡ displacement v ⌝ }
-{
-    if v < 32768 {
-        return v as i16;
+    if !corners_right(file, at) {
+        return Reading::Refused(22);
     }
-    ((v as i32) - 65536) as i16
+    Reading::Found(item_at(file, at))
 }
 
 // A yard file and a position in it.

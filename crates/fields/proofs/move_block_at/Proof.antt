@@ -1,6 +1,6 @@
 use Rattle.fields.proofs.Fields.{shift-called}
 use mathlib.Core.Path.{ap, _∙_}
-use Rattle.yardfile.specs.File.{displacement}
+use Rattle.file_words.specs.Words.{displacement}
 use borrow.Author.Needs.{needs}
 use Rattle.fields.proofs.move_block_at.Statement.{statement}
 use Rattle.fields.proofs.move_block_at.Tie as tie

@@ -1,4 +1,4 @@
-use Rattle.yardfile.proofs.Cases.{head-short, head-long, head-first, head-second, head-third, head-version, head-last}
+use Rattle.yardfile.proofs.Cases.{head-short, head-long, head-first, head-second, head-third, head-version-low, head-version-high, head-last}
 use borrow.Author.Needs.{needs}
 use Rattle.yardfile.proofs.head_right.Statement.{statement}
 use Rattle.yardfile.proofs.head_right.Tie as tie
@@ -19,10 +19,13 @@ returns-5 : tie.Need-returns-5
 returns-5 c = search head-third
 
 returns-6 : tie.Need-returns-6
-returns-6 c = search head-version
+returns-6 c = search head-version-low
 
 returns-7 : tie.Need-returns-7
-returns-7 c = search head-last
+returns-7 c = search head-version-high
+
+returns-8 : tie.Need-returns-8
+returns-8 c = search head-last
 
 pub head-right-spec : {M : Type 1} → statement M
 head-right-spec =
@@ -39,4 +42,6 @@ head-right-spec =
     (λ c. search needs)
     returns-6
     (λ c. search needs)
-    returns-7)
+    returns-7
+    (λ c. search needs)
+    returns-8)

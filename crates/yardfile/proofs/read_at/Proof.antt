@@ -1,4 +1,4 @@
-use Rattle.yardfile.proofs.Cases.{read-no-head, read-before, read-past, read-end, read-cut, read-found, file-size, number-inside}
+use Rattle.yardfile.proofs.Cases.{read-no-head, read-before, read-past, read-end, read-cut, read-outside, read-found, file-size, whole-inside}
 use borrow.Author.Needs.{needs}
 use Rattle.yardfile.proofs.read_at.Statement.{statement}
 use Rattle.yardfile.proofs.read_at.Tie as tie
@@ -21,14 +21,17 @@ record-whole-requires c κs = (search file-size, search needs)
 returns-5 : tie.Need-returns-5
 returns-5 c = search read-cut
 
-body-size-requires : tie.Need-body-size-requires
-body-size-requires c κs = (search file-size, search needs)
-
-shared-slice-read-t10 : tie.Need-shared-slice-read-t10
-shared-slice-read-t10 c = search number-inside
+corners-right-requires : tie.Need-corners-right-requires
+corners-right-requires c κs = (search whole-inside, search file-size)
 
 returns-6 : tie.Need-returns-6
-returns-6 c = search read-found
+returns-6 c = search read-outside
+
+item-at-requires : tie.Need-item-at-requires
+item-at-requires c κs = (search whole-inside, search file-size)
+
+returns-7 : tie.Need-returns-7
+returns-7 c = search read-found
 
 pub read-at-spec : {M : Type 1} → statement M
 read-at-spec =
@@ -41,11 +44,7 @@ read-at-spec =
     returns-4
     record-whole-requires
     returns-5
-    body-size-requires
-    (λ c. search needs)
-    (λ c. search needs)
-    shared-slice-read-t10
-    (λ c. search needs)
-    (λ c. search needs)
-    (λ c. search needs)
-    returns-6)
+    corners-right-requires
+    returns-6
+    item-at-requires
+    returns-7)

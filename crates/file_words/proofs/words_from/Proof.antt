@@ -1,10 +1,10 @@
-use Rattle.fields.proofs.Fields.{WordsTo, words-none, words-next, words-all}
+use Rattle.file_words.proofs.Corners.{WordsTo, words-none, words-next, words-all}
 use mathlib.Core.Path.{refl}
 use Prim.Native.Nat.{_-_, _≤_}
-use native.Mathlib.Omega.{arith}
 use borrow.Author.Needs.{needs}
-use Rattle.fields.proofs.words_from.Statement.{statement}
-use Rattle.fields.proofs.words_from.Tie as tie
+use native.Mathlib.Omega.{arith}
+use Rattle.file_words.proofs.words_from.Statement.{statement}
+use Rattle.file_words.proofs.words_from.Tie as tie
 
 abbrev Inv-loop : tie.InvT-loop
 Inv-loop file at n words₀ i₀ words i = (i ≤ n) × WordsTo file at words i

@@ -1,7 +1,7 @@
-use Rattle.yardfile.proofs.Cases.{low-value, wide-fits, narrow-fits, high-value}
+use Rattle.file_words.proofs.Sizes.{low-value, wide-fits, narrow-fits, high-value}
 use borrow.Author.Needs.{needs}
-use Rattle.yardfile.proofs.displacement.Statement.{statement}
-use Rattle.yardfile.proofs.displacement.Tie as tie
+use Rattle.file_words.proofs.displacement.Statement.{statement}
+use Rattle.file_words.proofs.displacement.Tie as tie
 
 returns : tie.Need-returns
 returns c = search low-value

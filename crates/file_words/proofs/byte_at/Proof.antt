@@ -1,7 +1,7 @@
-use Rattle.yardfile.proofs.Cases.{past-end}
+use Rattle.file_words.proofs.Sizes.{past-end}
 use borrow.Author.Needs.{needs}
-use Rattle.yardfile.proofs.byte_at.Statement.{statement}
-use Rattle.yardfile.proofs.byte_at.Tie as tie
+use Rattle.file_words.proofs.byte_at.Statement.{statement}
+use Rattle.file_words.proofs.byte_at.Tie as tie
 
 returns-2 : tie.Need-returns-2
 returns-2 c = search past-end

@@ -1,8 +1,8 @@
 use Prim.Native.Nat.{_+_}
 use native.Mathlib.Omega.{arith}
 use borrow.Author.Needs.{needs}
-use Rattle.yardfile.proofs.field.Statement.{statement}
-use Rattle.yardfile.proofs.field.Tie as tie
+use Rattle.file_words.proofs.field.Statement.{statement}
+use Rattle.file_words.proofs.field.Tie as tie
 
 cast-low : tie.Need-cast-low
 cast-low c = omega (arith, c .shared-slice-known .given (c .before .args .at))
