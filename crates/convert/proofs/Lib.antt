@@ -1,0 +1,4 @@
+pub mod Filling
+pub mod Outcomes
+pub mod Unique
+pub mod Back

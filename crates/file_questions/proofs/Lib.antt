@@ -1,0 +1,3 @@
+pub mod Steps
+pub mod Asking
+pub mod Answers

@@ -1,0 +1,3 @@
+pub mod Records
+pub mod Conversions
+pub mod inner
