@@ -41,16 +41,24 @@ reads-unique {f = f} (onward {r = i} e q) (onward {r = j} {es = es} e′ q′) =
     let u = reads-unique q (rw s at q′) in
     (rw (s, u .0), u .1, u .2)
 
+-- the same edits, over the same tables and the same lent words
+pub same-edits : {f g : List ℕ} {T : Tables} {old ws ws′ : List ℕ} {count count′ number number′ at at′ : ℕ} {U U′ : Tables}
+    → (p : EditsCalled f T old ws count number at U) (q : EditsCalled g T old ws′ count′ number′ at′ U′) → p .edits ≡ q .edits
+    → (count ≡ count′) × (ws ≡ ws′) × (U ≡ U′)
+same-edits {T = T} {old} {ws} {ws′} {count} {count′} {U = U} {U′} p q e =
+    let c : count ≡ count′ = p .counted ∙ (ap length e ∙ sym (q .counted)) in
+    let v = calls-unique (rw e at (p .calls)) (q .calls) in
+    let rest : drop count ws ≡ drop count′ ws′ = p .kept ∙ (ap (λ (k : ℕ). drop k old) c ∙ sym (q .kept)) in
+    let words : ws ≡ ws′ = sym (take-append-drop count ws) ∙ ((λ i. (v .0) i ++ rest i) ∙ take-append-drop count′ ws′) in
+    (c, words, v .1)
+
 pub called-edits-unique : {f : List ℕ} {T : Tables} {old ws ws′ : List ℕ} {count count′ number number′ at at′ : ℕ} {U U′ : Tables}
     → EditsCalled f T old ws count number at U → EditsCalled f T old ws′ count′ number′ at′ U′
     → (count ≡ count′) × (number ≡ number′) × (at ≡ at′) × (ws ≡ ws′) × (U ≡ U′)
-called-edits-unique {T = T} {old} {ws} {ws′} {count} {count′} {U = U} {U′} p q =
+called-edits-unique p q =
     let u = reads-unique (p .reads) (q .reads) in
-    let c : count ≡ count′ = p .counted ∙ (ap length (u .0) ∙ sym (q .counted)) in
-    let v = calls-unique (rw (u .0) at (p .calls)) (q .calls) in
-    let rest : drop count ws ≡ drop count′ ws′ = p .kept ∙ (ap (λ (k : ℕ). drop k old) c ∙ sym (q .kept)) in
-    let words : ws ≡ ws′ = sym (take-append-drop count ws) ∙ ((λ i. (v .0) i ++ rest i) ∙ take-append-drop count′ ws′) in
-    (c, u .1, u .2, words, v .1)
+    let s = same-edits p q (u .0) in
+    (s .0, u .1, u .2, s .1, s .2)
 
 -- two replays of one file, over the same tables and the same lent words, end alike and leave the same
 pub replayed-unique : {f : List ℕ} {T : Tables} {old ws ws′ : List ℕ} {count count′ number number′ at at′ : ℕ} {U U′ : Tables}
