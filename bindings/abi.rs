@@ -60,4 +60,10 @@ extern "C" {
         file: *const u8, file_len: usize, answers: *mut u32, answers_len: usize, end: *mut u64, end_len: usize,
     ) -> u32;
     pub fn yard_read(file: *const u8, file_len: usize, at: usize, item: *mut u64, item_len: usize) -> u32;
+    pub fn yard_file_shorten(
+        file: *const u8, file_len: usize, buffer: *mut u8, buffer_len: usize, length: *mut u32, length_len: usize,
+    ) -> u32;
+    pub fn yard_file_lengthen(
+        file: *const u8, file_len: usize, buffer: *mut u8, buffer_len: usize, length: *mut u32, length_len: usize,
+    ) -> u32;
 }

@@ -156,3 +156,15 @@ pub fn replay(t: &mut Tables, file: &[u8], answers: &mut [u32], end: &mut [u64])
     e.take(end, "the end");
     number
 }
+
+/// A file turned into the other version, shortened or lengthened: the number, and the two lists as the call leaves them.
+pub fn convert(shorten: bool, file: &[u8], buffer: &mut [u8], length: &mut [u32]) -> u32 {
+    let (mut f, mut b, mut l) = (Fenced::new(file, 0x5A), Fenced::new(buffer, 0x5A), Fenced::new(length, 0x5A5A_5A5A));
+    let call = if shorten { yard_file_shorten } else { yard_file_lengthen };
+    // The three lists are apart, live for the call, and as long as stated.
+    let number = unsafe { call(f.ptr(), f.len, b.ptr(), b.len, l.ptr(), l.len) };
+    f.kept(file, "the file");
+    b.take(buffer, "the buffer");
+    l.take(length, "the length");
+    number
+}

@@ -3,21 +3,23 @@
  *
  * The archive is for x86-64 and its System V calling convention (Linux). It calls memcpy and memset and nothing else.
  *
- * The caller owns five tables, best in a struct yard, and lends them to every call but yard_read, each as a pointer and
- * a length in elements; a quote is lent blocks and runs alone. The lengths must be exactly those below. Together the
- * tables take 48,750 bytes. No table or list that a call is lent may overlap another, be it corners, a file, an item,
- * answers, an end, a quote, a kind or points. Every pointer must be valid for its length and aligned for its element
- * type; NULL is allowed with length 0 alone, and is then an empty list.
+ * The caller owns five tables, best in a struct yard, and lends them to every call but yard_read and the two that
+ * convert a yard file, each as a pointer and a length in elements; a quote is lent blocks and runs alone. The lengths
+ * must be exactly those below. Together the tables take 48,750 bytes. No table or list that a call is lent may overlap
+ * another, be it corners, a file, an item, answers, an end, a quote, a kind, points, a buffer or a length. Every pointer
+ * must be valid for its length and aligned for its element type; NULL is allowed with length 0 alone, and is then an
+ * empty list.
  *
  * A call keeps nothing: there is no hidden state, no heap and no I/O. Calls on different tables may run at the same
  * time; calls on the same tables must not, except those that take them const beside each other. A call uses about 4 KiB
- * of stack (4,200 bytes at most where it was measured, on x86-64), yard_quote_route about 4 KiB (4,496 bytes) and
- * yard_replay about 6 KiB (6,248 bytes): reserve 8 KiB. Only yard_quote_duct takes more, about 19 KB.
+ * of stack (4,200 bytes at most where it was measured, on x86-64), yard_quote_route about 4 KiB (4,496 bytes),
+ * yard_replay about 6 KiB (6,232 bytes) and a conversion of a yard file about 5 KiB (5,368 bytes): reserve 8 KiB. Only
+ * yard_quote_duct takes more, about 19 KB.
  *
  * East is the first coordinate, north the second, from 0 to 32,767; lengths are in centimetres.
  *
- * A refused call (any answer but 0) changes nothing in any table or list. Only a yard_replay that answers 9 or 10 has
- * done something: see there.
+ * A refused call (any answer but 0) changes nothing in any table or list. Only a yard_replay that answers 9, 10 or 22
+ * has done something, and a conversion that is refused sets its length to 0: see there.
  */
 #ifndef YARD_H
 #define YARD_H
@@ -107,11 +109,13 @@ struct yard {
 #define YARD_WRONG_COUNT 6      /* adding a block: not 3 to 8 whole corners */
 #define YARD_WRONG_COORDINATE 7 /* a new or moved coordinate is not from 0 to 32,767 */
 #define YARD_NOT_CONVEX 8       /* adding a block: some corner is not strictly left of every side that it is not on */
-#define YARD_NOT_A_FILE 9       /* yard_read, yard_replay: not 5 to 8,192 bytes, the letters YRD and version 1 */
-#define YARD_NOT_A_RECORD 10    /* yard_read, yard_replay: outside the file, the kind unknown or the record cut off */
+#define YARD_NOT_A_FILE 9       /* a yard file: not 5 to 8,192 bytes, the letters YRD and a version that is taken */
+#define YARD_NOT_A_RECORD 10    /* a yard file: outside of it, the kind unknown or the record cut off */
 #define YARD_NOT_DRAWN 11       /* checking or drawing: pairs, routes or totals are not what blocks and runs require */
 #define YARD_TOO_MANY_BLOCKS 12 /* yard_quote_duct: more than 8 blocks stand */
 #define YARD_WRONG_CHARGE 13    /* yard_set_charge: the least charge is above 1,000 */
+#define YARD_TOO_FAR 21         /* yard_file_shorten: a step from a corner to the next is not from -128 to 127 */
+#define YARD_OUTSIDE 22         /* a block of version 2, read, shortened or lengthened: a corner not from 0 to 32,767 */
 
 /* An empty yard with least charge 0 and totals all 0, whatever the tables held. Answers 0 or 1. */
 uint32_t yard_start(uint16_t *blocks, size_t blocks_len, uint16_t *runs, size_t runs_len, uint8_t *pairs,
@@ -226,15 +230,24 @@ uint32_t yard_quote_duct(const uint16_t *blocks, size_t blocks_len, const uint16
                          uint32_t *quote, size_t quote_len, uint16_t *crossings, size_t crossings_len);
 
 /*
- * A yard file is the letters YRD, a 16-bit version (1), low byte first, then records from position 5 on: a kind byte, a
- * number byte, and fields of 16 bits, low byte first. Kinds: 1 add block (a count byte c, then c corners), 2 remove
- * block, 3 move block (two displacements, two's complement), 4 add run and 6 move run (four coordinates), 5 remove run,
- * 7 set the least charge (one field; the number byte is ignored, and may be any).
+ * A yard file is the letters YRD, a 16-bit version, 1 or 2, low byte first, then records from position 5 on: a kind
+ * byte, a number byte, and fields of 16 bits, low byte first. It has at most YARD_FILE_LEN bytes. Kinds: 1 add block (a
+ * count byte c, then c corners), 2 remove block, 3 move block (two displacements, two's complement), 4 add run and 6
+ * move run (four coordinates), 5 remove run, 7 set the least charge (one field; the number byte is ignored, and may be
+ * any).
+ *
+ * The versions differ in kind 1. In version 1 each corner is two fields, east and north: 3 + 4 * c bytes with kind,
+ * number and count. In version 2 the first corner is two fields, and each later one two signed bytes, how far east and
+ * how far north it lies from the corner before: 5 + 2 * c bytes, or 3 where c is 0. There every corner, whatever the
+ * count, must be from 0 to 32,767, or the record is refused with 22; in version 1 the edit itself refuses it, with 7.
  *
  * yard_read looks at the record at a position. item has room for exactly YARD_ITEM_LEN words; answer 0 fills it with
  * the record's kind, its number, the position of its fields (of kind 1: of the count byte) and the position of the next
- * record. At the end of the file the kind is 0. Answers 0, 9 or 10, or 1 if item has another length; item is then kept.
+ * record. At the end of the file the kind is 0. Answers 0, 9, 10 or 22, or 1 if item has another length; item is then
+ * kept. Positions are the file's own, so a program that wants a block's corners looks at the version; yard_replay takes
+ * both.
  */
+#define YARD_FILE_LEN 8192
 #define YARD_ITEM_LEN 4
 
 uint32_t yard_read(const uint8_t *file, size_t file_len, size_t at, uint64_t *item, size_t item_len);
@@ -246,8 +259,8 @@ uint32_t yard_read(const uint8_t *file, size_t file_len, size_t at, uint64_t *it
  * answers 1. end has exactly YARD_END_LEN words: how many edits were called, and the position where the file ended or
  * stopped.
  *
- * Answers 0 at the end of the file; 10 at a record that cannot be read, and the edits before it stand; 9 where it is no
- * yard file, and then no edit is called and the position is 0. Answers 1 if answers is shorter or end has another
+ * Answers 0 at the end of the file; 10 or 22 at a record that cannot be read, and the edits before it stand; 9 where it
+ * is no yard file, and then no edit is called and the position is 0. Answers 1 if answers is shorter or end has another
  * length; then nothing is changed, end neither.
  */
 #define YARD_ANSWERS_LEN 4096
@@ -257,6 +270,22 @@ uint32_t yard_replay(uint16_t *blocks, size_t blocks_len, uint16_t *runs, size_t
                      size_t pairs_len, uint32_t *routes, size_t routes_len, uint32_t *totals, size_t totals_len,
                      const uint8_t *file, size_t file_len, uint32_t *answers, size_t answers_len, uint64_t *end,
                      size_t end_len);
+
+/*
+ * yard_file_shorten turns a file of version 1 into one of version 2, yard_file_lengthen one of version 2 into one of
+ * version 1: the same records, so the same edits. There and back gives the same bytes, from either version. buffer has
+ * exactly YARD_FILE_LEN bytes, and length exactly one word: answer 0 fills buffer with the result and zeros after it,
+ * and length with the result's length. Any other answer keeps buffer; it sets length to 0, but 1, where a list has
+ * another length, keeps length too.
+ *
+ * Each question is put to all records before the next: 9, also for a file of the other version; 10; shortening, 21; 22,
+ * of the corners of blocks; and last 9 again, for a result of more than YARD_FILE_LEN bytes.
+ */
+uint32_t yard_file_shorten(const uint8_t *file, size_t file_len, uint8_t *buffer, size_t buffer_len, uint32_t *length,
+                           size_t length_len);
+
+uint32_t yard_file_lengthen(const uint8_t *file, size_t file_len, uint8_t *buffer, size_t buffer_len, uint32_t *length,
+                            size_t length_len);
 
 #ifdef __cplusplus
 }

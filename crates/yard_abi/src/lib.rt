@@ -9,6 +9,7 @@ ghost use Rattle.book.specs.Edits.{Started, Called, Checked};
 ghost use Rattle.counter.specs.Quote.{RouteQuoted};
 ghost use Rattle.ducts.specs.Quote.{DuctQuoted};
 ghost use Rattle.drawn_routes.specs.Lists.{PieceFilled, BendFilled};
+ghost use Rattle.convert.specs.Convert.{ConvertedInto};
 ghost use Rattle.yard_abi.specs.Reading.{ReadInto};
 ghost use Rattle.yard_abi.specs.Replaying.{ReplayedInto};
 use geometry::Place;
@@ -331,4 +332,18 @@ pub extern "C" fn yard_bend(
         kind,
         points,
     )
+}
+
+#[no_mangle]
+pub extern "C" fn yard_file_shorten(file: &[u8], buffer: &mut [u8], size: &mut [u32]) -> u32
+    ensures { λ r. ⌜ ConvertedInto 1 2 (now (file .entry)) (now (buffer .entry)) (now (buffer .exit)) (now (size .entry)) (now (size .exit)) r ⌝ }
+{
+    convert::shorten_into(file, buffer, size)
+}
+
+#[no_mangle]
+pub extern "C" fn yard_file_lengthen(file: &[u8], buffer: &mut [u8], size: &mut [u32]) -> u32
+    ensures { λ r. ⌜ ConvertedInto 2 1 (now (file .entry)) (now (buffer .entry)) (now (buffer .exit)) (now (size .entry)) (now (size .exit)) r ⌝ }
+{
+    convert::lengthen_into(file, buffer, size)
 }
