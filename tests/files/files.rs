@@ -1,7 +1,7 @@
 //! The files that are tried: written from edits, and damaged.
 
 use crate::random::{self, Random};
-use crate::reader::{HEAD, LONGEST};
+use crate::reader::{HEAD, LONGEST, SHORT};
 use crate::tables::Edit;
 
 pub fn record(e: &Edit) -> Vec<u8> {
@@ -27,10 +27,21 @@ pub fn record(e: &Edit) -> Vec<u8> {
     }
 }
 
-/// As many of the edits as a yard file has room for.
-pub fn file(edits: &[Edit]) -> Vec<u8> {
-    let mut bytes = HEAD.to_vec();
-    for r in edits.iter().map(record) {
+/// As version 2 has it. A step that fits in no signed byte is written all the same, as another one.
+pub fn short_record(e: &Edit) -> Vec<u8> {
+    let full = record(e);
+    if full[0] != 1 || full[2] == 0 {
+        return full;
+    }
+    let words: Vec<u16> = full[3..].chunks(2).map(|b| u16::from_le_bytes([b[0], b[1]])).collect();
+    let steps = (2..words.len()).map(|k| words[k].wrapping_sub(words[k - 2]) as u8);
+    full[..7].iter().copied().chain(steps).collect()
+}
+
+/// As many of the records as a yard file has room for.
+fn joined(head: [u8; 5], records: impl Iterator<Item = Vec<u8>>) -> Vec<u8> {
+    let mut bytes = head.to_vec();
+    for r in records {
         if bytes.len() + r.len() <= LONGEST {
             bytes.extend(r);
         }
@@ -38,16 +49,25 @@ pub fn file(edits: &[Edit]) -> Vec<u8> {
     bytes
 }
 
-/// A random yard's file of up to so many edits, some of them refused.
+pub fn file(edits: &[Edit]) -> Vec<u8> {
+    joined(HEAD, edits.iter().map(record))
+}
+
+pub fn short_file(edits: &[Edit]) -> Vec<u8> {
+    joined(SHORT, edits.iter().map(short_record))
+}
+
+/// A random yard's file of up to so many edits, some of them refused, of either version.
 pub fn random_file(r: &mut Random, most: usize) -> Vec<u8> {
     let s = random::any_style(r);
     let count = r.below(most + 1);
-    file(&random::list(r, &s, count))
+    let edits = random::list(r, &s, count);
+    if r.percent(50) { file(&edits) } else { short_file(&edits) }
 }
 
 /// Any bytes as records, most of them of a right kind.
 pub fn random_bytes(r: &mut Random) -> Vec<u8> {
-    let mut bytes = HEAD.to_vec();
+    let mut bytes = r.pick(&[HEAD, SHORT]).to_vec();
     let length = r.pick(&[5, 6, 7, 20, 60, 200, 1000, 8190]) + r.below(4);
     while bytes.len() < length {
         bytes.push(if r.percent(96) { 1 + r.below(7) as u8 } else { r.next() as u8 });

@@ -17,10 +17,10 @@ mod reference;
 #[allow(dead_code)]
 mod tables;
 
-use files::{damaged, file, random_bytes, random_file, record};
+use files::{damaged, file, random_bytes, random_file, record, short_file, short_record};
 use listing::listing;
 use random::Random;
-use reader::HEAD;
+use reader::{HEAD, SHORT};
 use std::fs::{self, File};
 use std::io::Write;
 use std::process::{Command, ExitCode, Stdio};
@@ -154,6 +154,7 @@ fn known() -> Vec<Case> {
     ];
     let square = Edit::AddBlock(0, vec![10, 10, 20, 10, 20, 20, 10, 20]);
     let head = |bytes: &[u8]| [&HEAD[..], bytes].concat();
+    let short = |bytes: &[u8]| [&SHORT[..], bytes].concat();
     vec![
         with("the listed yard", file(&document), "edit 1 answer 0\nedit 2 answer 0\nedit 3 answer 0\nrun 0 length 30 marks 192 10 193\n"),
         with("before block 1", file(&document[..2]), "edit 1 answer 0\nedit 2 answer 0\nrun 0 length 31 marks 192 0 1 193\n"),
@@ -178,6 +179,18 @@ fn known() -> Vec<Case> {
         with("count 0", head(&[1, 0, 0]), "edit 1 answer 6\n"),
         with("count 2", head(&[1, 0, 2, 0, 0, 0, 0, 9, 0, 9, 0]), "edit 1 answer 6\n"),
         with("earlier edits stand", [file(&document), vec![5]].concat(), "edit 1 answer 0\nedit 2 answer 0\nedit 3 answer 0\nstop 10 at 49\nrun 0 length 30 marks 192 10 193\n"),
+        with("the listed yard in version 2", short_file(&document), "edit 1 answer 0\nedit 2 answer 0\nedit 3 answer 0\nrun 0 length 30 marks 192 10 193\n"),
+        with("version 2 alone", SHORT.to_vec(), ""),
+        with("version 3", b"YRD\x03\x00".to_vec(), "stop 9 at 0\n"),
+        with("version 2, count 0", short(&[1, 0, 0]), "edit 1 answer 6\n"),
+        with("version 2, count 1", short(&[1, 0, 1, 9, 0, 9, 0]), "edit 1 answer 6\n"),
+        with("version 2, a triangle by steps back and forth", short(&[1, 0, 3, 200, 0, 200, 0, 127, 128, 0, 127, 4, 0, 0, 0, 150, 0, 240, 0, 150, 0]),
+            "edit 1 answer 0\nedit 2 answer 0\nrun 0 length 240 marks 192 193\n"),
+        with("version 2, a corner above 32,767", short(&[2, 0, 1, 0, 3, 255, 127, 9, 0, 1, 0, 0, 9]), "edit 1 answer 5\nstop 22 at 7\n"),
+        with("version 2, a corner below 0", short(&[2, 0, 1, 0, 3, 5, 0, 9, 0, 9, 0, 0xF1, 9]), "edit 1 answer 5\nstop 22 at 7\n"),
+        with("version 2, a corner below 0 and cut off", short(&[2, 0, 1, 0, 3, 5, 0, 9, 0, 9, 0, 0xF1]), "edit 1 answer 5\nstop 10 at 7\n"),
+        with("version 2, a corner of a count that is refused", short(&[1, 0, 1, 0, 128, 0, 0]), "stop 22 at 5\n"),
+        with("version 1, a corner above 32,767", head(&[1, 0, 3, 0, 128, 9, 0, 1, 0, 0, 9, 4, 4, 0, 4]), "edit 1 answer 7\n"),
     ]
 }
 
@@ -231,8 +244,8 @@ fn heads(example: &[u8]) -> Vec<Case> {
     cases
 }
 
-/// Kinds, numbers and counts, with the record whole and a byte short or long.
-fn records() -> Vec<Case> {
+/// Kinds, numbers and counts in one version, with the record whole and a byte short or long.
+fn records(file: fn(&[Edit]) -> Vec<u8>, record: fn(&Edit) -> Vec<u8>) -> Vec<Case> {
     let mut cases = vec![];
     let before = file(&[Edit::AddBlock(0, vec![10, 10, 20, 10, 20, 20, 10, 20]), Edit::AddRun(0, [0, 15, 30, 15])]);
     for kind in (0..=16).chain([31, 32, 64, 127, 128, 129, 130, 254, 255]) {
@@ -327,7 +340,8 @@ fn try_program(program: &str, seconds: u64, seed: u64) -> Result<bool, String> {
     let mut tests = Tests { program: program.to_string(), passed: 0, failed: 0 };
     tests.list("known listings", known());
     tests.list("heads and lengths", heads(document));
-    tests.list("kinds, counts, numbers and coordinates", records());
+    tests.list("kinds, counts, numbers and coordinates", records(file, record));
+    tests.list("the same in version 2", records(short_file, short_record));
     let truncated = |(name, bytes): &(String, Vec<u8>)| -> Vec<Case> {
         (0..=bytes.len()).map(|k| case(format!("{name}, the first {k} bytes"), bytes[..k].to_vec())).collect()
     };

@@ -117,6 +117,28 @@ fn replaying(report: &mut Report) {
     });
 }
 
+fn converting(report: &mut Report) {
+    report.case("file, buffer or length NULL", |calls| {
+        let (mut buffer, mut length) = (vec![7u8; 8192], [7u32]);
+        let short = b"YRD\x02\x00";
+        for (call, file) in [(yard_file_shorten as unsafe extern "C" fn(_, _, _, _, _, _) -> _, FILE), (yard_file_lengthen, short)] {
+            for missing in 1..8 {
+                let (b, l) = (lent(&mut buffer, missing & 2 != 0), lent(&mut length, missing & 4 != 0));
+                let (f, size) = if missing & 1 != 0 { (null(), 0) } else { (file.as_ptr(), file.len()) };
+                // Each list is apart, live for the call and as long as stated, or empty.
+                let number = unsafe { call(f, size, b.0, b.1, l.0, l.1) };
+                *calls += 1;
+                same_answer(&format!("lists {missing:03b} NULL"), number, if missing == 1 { 9 } else { 1 })?;
+                if buffer != [7; 8192] || length != [if missing == 1 { 0 } else { 7 }] {
+                    return Err(format!("lists {missing:03b} NULL: length {length:?}"));
+                }
+                length = [7];
+            }
+        }
+        Ok(())
+    });
+}
+
 /// A quote with lists that are NULL: answer 1 for every run.
 fn not_quoted(quote: impl Fn((*mut u16, usize), (*mut u16, usize), u32) -> u32, missing: u32, calls: &mut usize) -> Result<(), String> {
     let before = yard();
@@ -175,6 +197,7 @@ pub fn empty_lists(report: &mut Report) {
     corners(report);
     reading(report);
     replaying(report);
+    converting(report);
     quoting(report);
     drawing(report);
 }

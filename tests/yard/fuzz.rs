@@ -8,7 +8,7 @@ use crate::{charges, random_list, seams, totals, Report};
 use std::time::{Duration, Instant};
 
 fn one(p: &impl Planner, k: u64, r: &mut Random, calls: &mut usize) -> Result<(), String> {
-    match k % 9 {
+    match k % 10 {
         0 => degenerate::one(p, r, calls),
         #[cfg(not(plain))]
         1 => crate::replaying::one(r, calls),
@@ -21,6 +21,8 @@ fn one(p: &impl Planner, k: u64, r: &mut Random, calls: &mut usize) -> Result<()
         5 => seams::one(p, r, calls),
         6 => charges::one(p, r, calls),
         7 => totals::one(p, r, calls),
+        #[cfg(not(plain))]
+        8 => crate::converting::one(r, calls),
         _ => {
             let s = random::any_style(r);
             let edits = random::list(r, &s, 60);

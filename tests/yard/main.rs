@@ -6,6 +6,11 @@ mod abi;
 #[cfg(not(plain))]
 mod bends;
 mod charges;
+#[cfg(not(plain))]
+#[path = "../files/converter.rs"]
+mod converter;
+#[cfg(not(plain))]
+mod converting;
 mod degenerate;
 mod duct_router;
 mod duct_yards;
@@ -557,6 +562,8 @@ fn main() {
         report.end_group("reading");
         replaying::replaying(&mut report);
         report.end_group("replays");
+        converting::converting(&mut report);
+        report.end_group("conversions");
         empty_lists::empty_lists(&mut report);
         report.end_group("lists that are NULL");
         ducts::ducts(&mut report);

@@ -1,7 +1,7 @@
 //! The exported replay against the test's own reader and the second planner: its number, every word of answers and end, and
 //! the tables; over files good and damaged, tables right and wrong, and lists of every length.
 
-use crate::files::{damaged, file, random_bytes, random_file};
+use crate::files::{damaged, file, random_bytes, random_file, short_file};
 use crate::linked::replay;
 use crate::random::{Random, STYLES};
 use crate::reader::{read, HEAD, LONGEST};
@@ -85,14 +85,17 @@ fn some_file(r: &mut Random, most: usize) -> Vec<u8> {
 }
 
 fn known(report: &mut Report) {
-    let document = file(&[
+    let edits = [
         Edit::AddBlock(0, vec![10, 6, 14, 7, 14, 40, 10, 40]),
         Edit::AddRun(0, [0, 10, 27, 13]),
         Edit::AddBlock(1, vec![11, 1, 13, 1, 12, 5]),
-    ]);
+    ];
+    let (document, short) = (file(&edits), short_file(&edits));
+    // a third block that goes 1 below 0 by its last step
+    let below = [&short[..], &[1, 2, 3, 5, 0, 1, 0, 9, 0, 0xF1, 4]].concat();
     // number bytes 255 and 24, figures 500, 1,001 and 1,000
     let figures = [document.clone(), vec![7, 255, 0xF4, 1, 7, 24, 0xE9, 3, 7, 3, 0xE8, 3]].concat();
-    let rows: [(&str, Vec<u8>, u32, Vec<u32>, [u64; 2]); 8] = [
+    let rows: [(&str, Vec<u8>, u32, Vec<u32>, [u64; 2]); 13] = [
         ("the listed yard and three figures", figures.clone(), 0, vec![0, 0, 0, 0, 13, 0], [6, 61]),
         ("the last figure cut off", figures[..60].to_vec(), 10, vec![0, 0, 0, 0, 13], [5, 57]),
         ("kind 8 after figures", [figures, vec![8, 0, 0, 0]].concat(), 10, vec![0, 0, 0, 0, 13, 0], [6, 61]),
@@ -100,7 +103,12 @@ fn known(report: &mut Report) {
         ("the listed yard and a byte", [document, vec![5]].concat(), 10, vec![0, 0, 0], [3, 49]),
         ("the header alone", HEAD.to_vec(), 0, vec![], [0, 5]),
         ("nothing", vec![], 9, vec![], [0, 0]),
-        ("another version", b"YRD\x02\x00\x02\x00".to_vec(), 9, vec![], [0, 0]),
+        ("version 3", b"YRD\x03\x00\x02\x00".to_vec(), 9, vec![], [0, 0]),
+        ("version 2 with nothing", b"YRD\x02\x00".to_vec(), 0, vec![], [0, 5]),
+        ("the listed yard in version 2", short.clone(), 0, vec![0, 0, 0], [3, 39]),
+        ("version 2 cut off", short[..38].to_vec(), 10, vec![0, 0], [2, 28]),
+        ("version 2 with a corner below 0", below.clone(), 22, vec![0, 0, 0], [3, 39]),
+        ("version 2 with a corner below 0, cut off", below[..49].to_vec(), 10, vec![0, 0, 0], [3, 39]),
     ];
     for (name, file, number, answers, end) in rows {
         report.case(&format!("replay of {name}"), |calls| {
@@ -144,7 +152,7 @@ pub fn one(r: &mut Random, calls: &mut usize) -> Result<(), String> {
 }
 
 fn over_right_tables(report: &mut Report) {
-    let mut numbers = [0; 11];
+    let mut numbers = [0; 23];
     for seed in 0..240u64 {
         report.case(&format!("replay over right tables, seed {seed}"), |calls| {
             let mut r = Random::new(9_100_000 + seed);
@@ -160,7 +168,7 @@ fn over_right_tables(report: &mut Report) {
         });
     }
     report.case("files good and bad often enough", |_| {
-        if [0, 9, 10].iter().all(|&n| numbers[n] >= 10) { Ok(()) } else { Err(format!("{numbers:?}")) }
+        if [0, 9, 10, 22].iter().all(|&n| numbers[n] >= 10) { Ok(()) } else { Err(format!("{numbers:?}")) }
     });
 }
 
