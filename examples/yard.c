@@ -165,6 +165,18 @@ static void print_duct(void) {
     printf("\n");
 }
 
+/* The file for a slow link: shortened, replayed as it is, and lengthened again. */
+static void send_short(void) {
+    static uint8_t small[YARD_FILE_LEN], again[YARD_FILE_LEN];
+    uint32_t length, back;
+
+    answer("shorten the file", yard_file_shorten(file, sizeof file, small, YARD_FILE_LEN, &length, 1));
+    printf("%zu bytes to %" PRIu32 "\n", sizeof file, length);
+    replay("replay the short file", small, length);
+    answer("lengthen it", yard_file_lengthen(small, length, again, YARD_FILE_LEN, &back, 1));
+    printf("%" PRIu32 " bytes, %sas sent\n", back, back == sizeof file && memcmp(again, file, back) == 0 ? "" : "not ");
+}
+
 int main(void) {
     edit_by_calls();
     print_records();
@@ -175,5 +187,6 @@ int main(void) {
     print_duct();
     replay("replay it with its last byte cut off", file, sizeof file - 1);
     replay("replay no file", NULL, 0);
+    send_short();
     return 0;
 }

@@ -179,7 +179,11 @@ pub struct Note {
 
 fn stop_note(yard: &Yard) -> Option<Note> {
     let stop = yard.stop?;
-    let why = if stop.number == 9 { "not a yard file of version 1" } else { "no whole record here; the edits before it stand" };
+    let why = match stop.number {
+        9 => "not a yard file",
+        22 => "a corner is not from 0 to 32,767; the edits before it stand",
+        _ => "no whole record here; the edits before it stand",
+    };
     Some(Note { text: format!("stop {} at {}: {why}", stop.number, stop.at), amiss: true })
 }
 

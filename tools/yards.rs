@@ -22,7 +22,7 @@ pub use tables::Tables;
 /// East and north, in centimetres.
 pub type Place = (u16, u16);
 
-/// Where reading stopped short of the file's end: 9 or 10, and the position of the record, 0 for 9.
+/// Where reading stopped short of the file's end: 9, 10 or 22, and the position of the record, 0 for 9.
 #[derive(Clone, Copy)]
 pub struct Stop {
     pub number: u32,
@@ -56,10 +56,10 @@ pub fn bytes(path: &Path) -> Result<Vec<u8>, String> {
 }
 
 /// Prints what a command made, or one line that says why there is nothing. A reader who closes the pipe has read enough.
-pub fn printed(command: &str, made: Result<String, String>) -> ExitCode {
-    let written = made.and_then(|text| {
+pub fn printed(command: &str, made: Result<impl AsRef<[u8]>, String>) -> ExitCode {
+    let written = made.and_then(|made| {
         let mut out = std::io::stdout();
-        match out.write_all(text.as_bytes()).and_then(|()| out.flush()) {
+        match out.write_all(made.as_ref()).and_then(|()| out.flush()) {
             Err(e) if e.kind() != ErrorKind::BrokenPipe => Err(format!("cannot write the output: {e}")),
             _ => Ok(()),
         }
