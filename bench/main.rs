@@ -1,9 +1,11 @@
 //! The benchmark: a drag step of the proved planner beside a plain one of the same algorithm, one that draws
-//! everything from nothing, and Graphviz's, over several yards; the two quotes; and the two calls that draw.
+//! everything from nothing, and Graphviz's, over several yards; the two quotes; the two calls that draw; and the two
+//! conversions of a yard file.
 
 #[path = "../bindings/abi.rs"]
 #[allow(dead_code)]
 mod abi;
+mod conversions;
 mod ducts;
 mod graphviz;
 mod pieces;
@@ -346,6 +348,8 @@ fn main() {
             };
             assert_eq!(answer, 0);
         }
+        // for callgrind: a long file shortened and lengthened again
+        ["convert"] => conversions::once(),
         // for callgrind: one bend of a yard, by both calls that draw
         ["pieces", word] => pieces::once(&grid(word).tables()),
         // for callgrind: all routes of the drag yard where every pair's byte says clear, by a move of a run to its own ends

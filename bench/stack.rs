@@ -1,7 +1,7 @@
 //! The greatest depth of stack inside each call, against the figures of `include/yard.h` and what it has its user
 //! reserve: the call runs on a stack painted beforehand.
 
-use crate::{abi::*, ducts, pieces, quotes, Grid, Tables, CROWDED, TOUCHING};
+use crate::{abi::*, conversions, ducts, pieces, quotes, Grid, Tables, CROWDED, TOUCHING};
 use std::arch::asm;
 
 const SIZE: usize = 1 << 20;
@@ -28,6 +28,8 @@ enum Call {
     Bend(u32, u32, [f64; pieces::NINE_POINTS]),
     Replay(Vec<u8>, Vec<u32>, [u64; 2]),
     QuoteRoute(u32, [u32; quotes::ROUTE]),
+    Shorten(Vec<u8>, Vec<u8>),
+    Lengthen(Vec<u8>, Vec<u8>),
     QuoteDuct([u32; ducts::QUOTE], Vec<u16>),
 }
 
@@ -60,6 +62,8 @@ extern "C" fn perform(job: *mut Job) {
                 let (a, al, e, el) = (a.as_mut_ptr(), a.len(), e.as_mut_ptr(), e.len());
                 yard_replay(b, bl, r, rl, p, pl, w, wl, s, sl, f.as_ptr(), f.len(), a, al, e, el)
             }
+            Call::Shorten(f, b) => yard_file_shorten(f.as_ptr(), f.len(), b.as_mut_ptr(), b.len(), &mut 0, 1),
+            Call::Lengthen(f, b) => yard_file_lengthen(f.as_ptr(), f.len(), b.as_mut_ptr(), b.len(), &mut 0, 1),
             Call::QuoteRoute(run, w) => yard_quote_route(b, bl, r, rl, *run, w.as_mut_ptr(), w.len()),
             Call::QuoteDuct(q, c) => yard_quote_duct(b, bl, r, rl, 0, q.as_mut_ptr(), q.len(), c.as_mut_ptr(), c.len()),
         }
@@ -126,6 +130,19 @@ fn every_kind(yard: &Grid) -> Vec<u8> {
     [b"YRD\x01\x00".to_vec(), edits.concat()].concat()
 }
 
+/// Files of both versions with a block of 255 corners, whose result is shorter and longer.
+fn conversions() -> Vec<(Tables, Call)> {
+    let none = || Tables { blocks: vec![], runs: vec![], pairs: vec![], routes: vec![], totals: vec![] };
+    let buffer = || vec![0; conversions::BUFFER];
+    let many = [&conversions::file(4000)[..], &[1, 0, 255], &[7; 1020]].concat();
+    let mut short = buffer();
+    let mut length = 0;
+    let answer = unsafe { yard_file_shorten(many.as_ptr(), many.len(), short.as_mut_ptr(), short.len(), &mut length, 1) };
+    assert_eq!(answer, 0);
+    short.truncate(length as usize);
+    vec![(none(), Call::Shorten(many, buffer())), (none(), Call::Lengthen(short, buffer()))]
+}
+
 /// How many of the calls below a panel makes.
 const PANELS: usize = 11;
 
@@ -168,7 +185,7 @@ fn calls(yard: &Grid) -> [(&'static str, Vec<(Tables, Call)>); PANELS + 2] {
 }
 
 /// What the header says: the KiB that its user is to reserve, for a call and for the duct quote, and the bytes that were
-/// measured, of a call, of a route's quote, of a replay and of the duct quote.
+/// measured, of a call, of a route's quote, of a replay, of a conversion and of the duct quote.
 fn said(header: &str) -> (Vec<usize>, Vec<usize>) {
     let words: Vec<&str> = header.split_whitespace().filter(|&w| w != "*").collect();
     let reserve = |w: &[&str]| (w[0] == "reserve" && w[2].starts_with("KiB")).then(|| w[1].parse().ok())?;
@@ -180,8 +197,8 @@ fn said(header: &str) -> (Vec<usize>, Vec<usize>) {
 pub fn print() {
     let header = std::fs::read_to_string("include/yard.h").expect("include/yard.h");
     let (reserves, figures) = said(&header);
-    let ([reserve, duct_reserve], [figure, route_figure, replay_figure, duct_figure]) = (&reserves[..], &figures[..]) else {
-        panic!("include/yard.h should reserve two stacks and give four figures: {reserves:?}, {figures:?}")
+    let ([reserve, duct_reserve], [figure, route_figure, replay_figure, file_figure, duct_figure]) = (&reserves[..], &figures[..]) else {
+        panic!("include/yard.h should reserve two stacks and give five figures: {reserves:?}, {figures:?}")
     };
     let frame = greatest(&[(CROWDED.tables(), Call::Nothing)]);
     println!("greatest depth of stack of a call, bytes, over the crowded yard and the touching yard");
@@ -192,6 +209,8 @@ pub fn print() {
     depths.iter().for_each(|(name, bytes)| println!("{name:<18} {bytes:>6}"));
     let most = depths[..PANELS].iter().map(|d| d.1).max().unwrap_or(0);
     let (route, replay) = (depths[PANELS].1, depths[PANELS + 1].1);
+    let file = greatest(&conversions()) - frame;
+    println!("{:<18} {file:>6} with yard_file_lengthen", "yard_file_shorten");
     let quote = |y: &ducts::Yard| (y.tables(), Call::QuoteDuct([0; ducts::QUOTE], vec![0; ducts::CROSSINGS]));
     let duct = greatest(&ducts::YARDS.iter().map(quote).collect::<Vec<_>>()) - frame;
     println!("{:<18} {duct:>6} over the yards of the duct quote", "yard_quote_duct");
@@ -201,10 +220,11 @@ pub fn print() {
         ("a call", most, figure, reserve),
         ("a route's quote", route, route_figure, reserve),
         ("a replay", replay, replay_figure, reserve),
+        ("a conversion", file, file_figure, reserve),
         ("a duct's quote", duct, duct_figure, duct_reserve),
     ] {
         assert!(bytes <= *figure, "{what} takes {bytes} bytes of stack, include/yard.h says {figure}");
         assert!(bytes <= reserve << 10, "{what} takes {bytes} bytes of stack, include/yard.h reserves {reserve} KiB");
     }
-    println!("tests/stack: within the {figure}, {route_figure}, {replay_figure} and {duct_figure} bytes of include/yard.h");
+    println!("tests/stack: within the {figure}, {route_figure}, {replay_figure}, {file_figure} and {duct_figure} bytes of include/yard.h");
 }
