@@ -102,9 +102,6 @@ module _ (f : List ℕ) (q at : ℕ) (w : Walked f q at) where
             same = w .same ∙ (every-step f at (w .fuel) l (w .enough) (asked q) ∙ rw (sym e ∙ not-false t y));
           })
 
-      pub walked-less : (b : ℕ) → b ≡ bodySize f at → at + 2 + b ≤ length f
-      walked-less b h = omega (arith, walked-fits)
-
 -- the size of the result
 pub record Summing (f : List ℕ) (v at total : ℕ) : Type 0 where
   pub fuel : ℕ
@@ -118,9 +115,6 @@ summing-none f v h w = record { fuel = length f; left = left-none f h w; same = 
 module _ (f : List ℕ) (v at total : ℕ) (g : Summing f v at total) where
   pub summing-end : length f ≤ at → total ≡ length (converted v f)
   summing-end h = omega (arith, g .same, ap length (ap (bytesOf v) (recs-end f (g .fuel) at h) ∙ bytes-none v))
-
-  pub summing-fits : at < length f → nextAt f at ≤ length f
-  summing-fits l = whole-fits f at (whole-here f at (g .fuel) l (g .left .enough) (g .left .whole))
 
   pub summing-next : (s b : ℕ) → at < length f → s ≡ sizeIn v f at → s ≤ 1023 → b ≡ bodySize f at → Summing f v (at + 2 + b) (total + s)
   summing-next s b l e m h =

@@ -25,10 +25,6 @@ pub bytes-short : (v : ℕ) (ws : List ℕ) → (v ≡ 1 → ⊥) → cornerByte
 unfolding cornerBytes
 bytes-short v ws e = rw (ne-eqb v 1 e)
 
-short-two : (a b : ℕ) (ws : List ℕ) → shortBytes (a ∷ b ∷ ws) ≡ wordBytes (a ∷ b ∷ []) ++ stepBytes a b ws
-unfolding shortBytes
-short-two a b ws = refl
-
 fields-two : (f : List ℕ) (at : ℕ) → fieldsFrom f (at + 1) 2 ≡ field f (at + 1) ∷ field f (at + 3) ∷ []
 unfolding fieldsFrom
 fields-two f at = let e : at + 1 + 2 ≡ at + 3 = omega arith in rw e
