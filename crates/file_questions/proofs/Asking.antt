@@ -1,7 +1,7 @@
 -- One question to a record and to all, and the size of the result, for each way out of the code.
 use mathlib.Core.Path.{_≡_, refl, sym, ap, _∙_}
 use mathlib.Core.List.{List}
-use mathlib.Core.Bool.{Bool, true, false, not, _||_, cond}
+use mathlib.Core.Bool.{Bool, true, false, not, _||_}
 use Prim.Native.Nat.{ℕ, _+_, _*_, _-_, _<_, _≤_}
 use native.Mathlib.Omega.{arith}
 use native.Mathlib.Decide.{ℕ-discrete}
@@ -15,7 +15,7 @@ use Rattle.file_records.specs.Records.{Rec, nextAt, wordsAt, recAt, recBytes, b
 use Rattle.file_records.specs.Conversions.{near, stepsRight, placesRight, converted}
 use Rattle.file_records.specs.inner.Asked.{asked, everyone, sizeIn}
 use Rattle.file_records.proofs.Recs.{words-block, size-one, size-other, rec-size}
-use Rattle.file_records.proofs.Files.{recsFrom, every, every-end, recs-end, bytes-none, bytes-more, asked-whole}
+use Rattle.file_records.proofs.Files.{always, recsFrom, every, every-end, recs-end, bytes-none, bytes-more, asked-whole}
 use Rattle.file_records.proofs.Walks.{converted-is, Left, left-none, left-next, every-step, recs-step, whole-here}
 
 -- the size of a record in a version
@@ -35,11 +35,7 @@ module _ (q : ℕ) (f : List ℕ) (at : ℕ) where
   module _ (ten : q ≡ 10 → ⊥) (k : ℕ) (e : k ≡ byte f at) where
     pub asked-other : (k ≡ 1 → ⊥) → true ≡ asked q f at
     unfolding asked stepsRight placesRight
-    asked-other other = rw (ne-eqb q 10 ten, ne-eqb (byte f at) 1 (λ z. other (e ∙ z))) (either (eqb q 21))
-      where
-        either : (b : Bool) → true ≡ cond b true true
-        either true = refl
-        either false = refl
+    asked-other other = rw (ne-eqb q 10 ten, ne-eqb (byte f at) 1 (λ z. other (e ∙ z))) (sym (always (eqb q 21)))
 
     module _ (one : k ≡ 1) (b : ℕ) (ws : List ℕ) (m : b ≡ byte f (at + 2)) (w : take (2 * byte f (at + 2)) ws ≡ cornerWords f (at + 2)) (t : Bool) where
       words-here : take (2 * b) ws ≡ wordsAt f at

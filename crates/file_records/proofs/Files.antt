@@ -1,7 +1,7 @@
 -- The records of a file, written and read back in either version.
 use mathlib.Core.Path.{_≡_, refl, sym, ap, _∙_}
 use mathlib.Core.List.{List, [], _∷_, _++_, map}
-use mathlib.Core.Bool.{Bool, true, _&&_, _||_, cond}
+use mathlib.Core.Bool.{Bool, true, false, _&&_, _||_, cond}
 use Prim.Native.Nat.{ℕ, zero, suc, _+_, _-_, _<_, _≤_}
 use native.Mathlib.Omega.{arith}
 use native.Mathlib.Decide.{decLt}
@@ -36,6 +36,10 @@ asked-near f at = refl
 pub asked-inside : (f : List ℕ) (at : ℕ) → asked 22 f at ≡ placesRight (recAt f at)
 unfolding asked
 asked-inside f at = refl
+
+pub always : (b : Bool) → cond b true true ≡ true
+always true = refl
+always false = refl
 
 -- the questions of the answer are these
 asked-all : (p q : ℕ → Bool) → ((k : ℕ) → p k ≡ q k) → (ks : List ℕ) → all p ks ≡ all q ks

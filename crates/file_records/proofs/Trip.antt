@@ -13,13 +13,13 @@ use Rattle.file_words.specs.Words.{byte, cornerWords, inside}
 use Rattle.yardfile.specs.File.{headRight, recordWhole, cornersRight, itemAt, readAt}
 use Rattle.lists.proofs.Every.{both}
 use Rattle.yardfile.proofs.Cases.{head-pieces}
-use Rattle.file_records.specs.Records.{Rec, recAt, records, bytesOf, fileOf}
+use Rattle.file_records.specs.Records.{Rec, recAt, records, fileOf}
 use Rattle.file_records.specs.Conversions.{placesRight, converted, answer}
 use Rattle.file_records.specs.inner.Asked.{everyone}
 use Rattle.file_records.proofs.Words.{Bytes, drop-one, drop-two}
 use Rattle.file_records.proofs.Recs.{words-block, inside-words}
 use Rattle.file_records.proofs.Walks.{converted-is}
-use Rattle.file_records.proofs.Files.{answer-is, files-print, all-near, All, recs-good, FileParsed, files-parse}
+use Rattle.file_records.proofs.Files.{always, answer-is, files-print, all-near, All, recs-good, FileParsed, files-parse}
 
 -- an answer of 0 has passed every question
 passed : (a b c d e : Bool) → _≡_ {A = ℕ} (cond a (cond b (cond c (cond d (cond e 0 9) 22) 21) 10) 9) 0
@@ -59,9 +59,6 @@ accepted v w f h =
       within = p .3;
       short = leb-true (length (converted w f)) 8192 (p .4);
     }
-
-file-size : (w : ℕ) (rs : List Rec) → length (fileOf w rs) ≡ 5 + length (bytesOf w rs)
-file-size w rs = omega arith
 
 head-made : (w : ℕ) (rs : List Rec) → 1 ≤ w → w ≤ 2 → length (fileOf w rs) ≤ 8192 → headRight (fileOf w rs) ≡ true
 unfolding headRight
@@ -127,10 +124,6 @@ lengthen-shorten f bs ok = (back-accepted 2 1 (λ e. omega arith) (omega arith) 
 pub read-end : (f : List ℕ) (at : ℕ) → headRight f ≡ true → 5 ≤ at → at ≡ length f → readAt f at ≡ End
 unfolding readAt
 read-end f at h l e = rw (h, le-leb 5 at l, le-leb at (length f) (omega arith), eq-eqb at (length f) e)
-
-always : (b : Bool) → cond b true true ≡ true
-always true = refl
-always false = refl
 
 right-inside : (f : List ℕ) (at : ℕ) → placesRight (recAt f at) ≡ true → cornersRight f at ≡ true
 unfolding cornersRight

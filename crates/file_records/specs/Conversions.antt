@@ -13,16 +13,18 @@ use Rattle.file_records.specs.Records.{Rec, positions, records, fileOf}
 abbrev pub stepNear : ℕ → ℕ → Bool
 stepNear a c = leb c (a + 127) && leb a (c + 128)
 
+-- so is each step along words that follow the coordinates a and b of a corner
 unfoldable pub nearFrom : ℕ → ℕ → List ℕ → Bool
 nearFrom a b [] = true
 nearFrom a b (c ∷ ws) = stepNear a c && nearFrom b c ws
 
+-- and along all corners
 unfoldable pub near : List ℕ → Bool
 near [] = true
 near (a ∷ []) = true
 near (a ∷ b ∷ ws) = nearFrom a b ws
 
--- 21: every step of a block is
+-- 21: every step of a block is from -128 to 127
 unfoldable pub stepsRight : Rec → Bool
 stepsRight r = cond (eqb (r .kind) 1) (near (r .words)) true
 

@@ -26,10 +26,11 @@ positionsFrom f (suc n) at = cond (ltb at (length f)) (at ∷ positionsFrom f n 
 abbrev pub positions : List ℕ → List ℕ
 positions f = positionsFrom f (length f) 5
 
--- the record at a position
+-- the fields of the record at a position
 unfoldable pub wordsAt : List ℕ → ℕ → List ℕ
 wordsAt f at = cond (eqb (byte f at) 1) (cornerWords f (at + 2)) (fieldsFrom f (at + 2) (plainWords (byte f at)))
 
+-- that record
 abbrev pub recAt : List ℕ → ℕ → Rec
 recAt f at = record { kind = byte f at; number = byte f (at + 1); words = wordsAt f at }
 
@@ -57,16 +58,19 @@ shortBytes [] = []
 shortBytes (a ∷ []) = []
 shortBytes (a ∷ b ∷ ws) = wordBytes (a ∷ b ∷ []) ++ stepBytes a b ws
 
+-- corners as a version writes them
 unfoldable pub cornerBytes : ℕ → List ℕ → List ℕ
 cornerBytes version ws = cond (eqb version 1) (wordBytes ws) (shortBytes ws)
 
--- a record as a version writes it: its kind and number, a block's count, and its fields
+-- what follows the kind and the number: a block's count and corners, or the fields
 unfoldable pub bodyBytes : ℕ → ℕ → List ℕ → List ℕ
 bodyBytes version kind ws = cond (eqb kind 1) (length ws / 2 ∷ cornerBytes version ws) (wordBytes ws)
 
+-- a record as a version writes it
 abbrev pub recBytes : ℕ → Rec → List ℕ
 recBytes version r = r .kind ∷ r .number ∷ bodyBytes version (r .kind) (r .words)
 
+-- records, one after the other
 unfoldable pub bytesOf : ℕ → List Rec → List ℕ
 bytesOf version [] = []
 bytesOf version (r ∷ rs) = recBytes version r ++ bytesOf version rs
