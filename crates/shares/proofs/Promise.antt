@@ -1,0 +1,77 @@
+-- After any list of calls whoever holds fewer runs than promised finds a free number and is not turned down there.
+use mathlib.Core.Path.{_≡_, refl, sym, _∙_}
+use mathlib.Core.List.{List}
+use mathlib.Core.Bool.{true, _&&_}
+use Prim.Native.Nat.{ℕ, _+_, _*_, _<_, _≤_}
+use native.Mathlib.Omega.{arith}
+use lib.Dec.{leb, eqb}
+use borrow.Author.Tests.{lt-ltb, le-leb, leb-true, eqb-true, eq-eqb}
+use Rattle.lists.specs.Lists.{allBelow}
+use Rattle.lists.proofs.Below.{all-at}
+use Rattle.lists.proofs.Every.{both}
+use Rattle.geometry.specs.Words.{Point, word}
+use Rattle.tables.specs.Tables.{Tables, records}
+use Rattle.records.specs.Questions.{placeRight}
+use Rattle.book.specs.Questions.{firstNo}
+use Rattle.book.specs.Book.{Book, free}
+use Rattle.book.specs.Edits.{bookOf}
+use Rattle.book.proofs.Stored.{run-free}
+use Rattle.book.proofs.Demand3.{drawn-book}
+use Rattle.shares.specs.Shares.{Terms, sumBelow, held, freeNumbers, unfilledOf, unfilled, unfilledOthers, termsRight, sharesRight}
+use Rattle.shares.specs.Calls.{addRunFor, questionsFor}
+use Rattle.shares.specs.Promise.{Turn, CallsFor, Opened, FreeNumber, Promise, KeepsPromise}
+use Rattle.shares.proofs.Sums.{some-below, sum-part}
+use Rattle.shares.proofs.Counts.{unfilled-split}
+use Rattle.shares.proofs.Keeping.{Kept, kept-of}
+use Rattle.shares.proofs.Going.{Going, answerFor, drawn-for, going-all, opened-going}
+
+share-below : (t : Terms) (c : ℕ) → termsRight t ≡ true → c < 4 → word (t .shares) c ≤ word (t .ceilings) c
+unfolding termsRight
+share-below t c h l =
+    let a = both (allBelow 4 (λ k. leb (word (t .shares) k) (word (t .ceilings) k))) (leb (sumBelow 4 (λ k. word (t .shares) k)) 24) h in
+    leb-true _ _ (all-at (λ k. leb (word (t .shares) k) (word (t .ceilings) k)) 4 c (a .0) l)
+
+module _ (t : Terms) (T : Tables) (hs : List ℕ) (g : Going t T hs) where
+  -- question 18 as the tables say it
+  still-right : sharesRight (bookOf (records T) .runs) t hs ≡ true
+  still-right = rw (drawn-book (g .book) T (g .sound) (g .drawn)) (g .right)
+
+  free-word : (m : ℕ) → m < 24 → free (g .book .runs) m ≡ eqb (word (T .runs) (5 * m)) 0
+  free-word m l = rw (drawn-book (g .book) T (g .sound) (g .drawn)) at (run-free (records T) m l)
+
+  kept : Kept (g .book .runs) t hs
+  kept = kept-of (g .book .runs) t hs (g .right)
+
+  module _ (c : ℕ) (lc : c < 4) (low : held hs c < word (t .shares) c) where
+    some-free : 0 < freeNumbers (g .book .runs)
+    unfolding unfilled
+    some-free = omega (arith, kept .enough, sum-part (λ d. unfilledOf hs (t .shares) d) 4 c lc)
+
+    finds : FreeNumber T
+    unfolding freeNumbers
+    finds =
+        let s = some-below (λ m. free (g .book .runs) m) 24 some-free in
+        record { number = s .number; below = s .below; absent = eqb-true _ 0 (sym (free-word (s .number) (s .below)) ∙ s .meets) }
+
+    grants : (m : ℕ) (p q : Point) → m < 24 → word (T .runs) (5 * m) ≡ 0 → placeRight p && placeRight q ≡ true → answerFor (g .book) t hs (addRunFor c m p q) ≡ 0
+    unfolding questionsFor firstNo
+    grants m p q lm z r =
+        let spare : unfilledOthers hs (t .shares) c + 1 ≤ freeNumbers (g .book .runs) = omega (arith, kept .enough, unfilled-split hs (t .shares) c lc) in
+        let below : held hs c < word (t .ceilings) c = omega (arith, share-below t c (kept .terms) lc) in
+        rw (g .lists, g .right, lt-ltb c 4 lc, lt-ltb m 24 lm, free-word m lm ∙ eq-eqb _ 0 z, lt-ltb _ _ below, le-leb _ _ spare, r)
+
+  promise : Promise t T hs
+  promise =
+      record {
+        finds = finds;
+        accepts = λ c m p q lc low lm z r n T′ hs′ s.
+            s .answer ∙ drawn-for (g .book) T t hs (addRunFor c m p q) (g .sound) (g .drawn) ∙ grants c lc low m p q lm z r;
+      }
+
+-- question 18 is answered yes after every list of calls
+pub always-right : (t : Terms) (T T′ : Tables) (hs hs′ : List ℕ) (xs : List Turn) (rs : List ℕ)
+    → Opened t T hs → CallsFor t xs T hs rs T′ hs′ → sharesRight (bookOf (records T′) .runs) t hs′ ≡ true
+always-right t T T′ hs hs′ xs rs o cs = still-right t T′ hs′ (going-all (opened-going t T hs o) cs)
+
+pub keeps-promise : KeepsPromise
+keeps-promise t T T′ hs hs′ xs rs o cs = promise t T′ hs′ (going-all (opened-going t T hs o) cs)
