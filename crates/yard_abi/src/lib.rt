@@ -6,6 +6,8 @@ ghost use Rattle.geometry.specs.Words.{point};
 ghost use Rattle.tables.specs.Tables.{tables, stored};
 ghost use Rattle.book.specs.Book.{addBlock, removeBlock, moveBlock, addRun, removeRun, moveRun, setCharge};
 ghost use Rattle.book.specs.Edits.{Started, Called, Checked};
+ghost use Rattle.shares.specs.Shares.{terms};
+ghost use Rattle.shares.specs.Calls.{addRunFor, removeRunFor, moveRunFor, CalledFor};
 ghost use Rattle.counter.specs.Quote.{RouteQuoted};
 ghost use Rattle.ducts.specs.Quote.{DuctQuoted};
 ghost use Rattle.drawn_routes.specs.Lists.{PieceFilled, BendFilled};
@@ -166,6 +168,92 @@ pub extern "C" fn yard_set_charge(
         r (tables (now (blocks .exit)) (now (runs .exit)) (now (pairs .exit)) (now (routes .exit)) (now (totals .exit))) ⌝ }
 {
     charge_edits::set_charge(blocks, runs, pairs, routes, totals, figure)
+}
+
+#[no_mangle]
+pub extern "C" fn yard_add_run_for(
+    blocks: &mut [u16],
+    runs: &mut [u16],
+    pairs: &mut [u8],
+    routes: &mut [u32],
+    totals: &mut [u32],
+    holders: &mut [u8],
+    shares: &[u8],
+    ceilings: &[u8],
+    contractor: u32,
+    number: u32,
+    first_east: u16,
+    first_north: u16,
+    second_east: u16,
+    second_north: u16,
+) -> u32
+    ensures { λ r. ⌜ CalledFor (addRunFor contractor number (point «first_east» «first_north») (point «second_east» «second_north»))
+        (terms (now (shares .entry)) (now (ceilings .entry)))
+        (tables (now (blocks .entry)) (now (runs .entry)) (now (pairs .entry)) (now (routes .entry)) (now (totals .entry))) (now (holders .entry))
+        r (tables (now (blocks .exit)) (now (runs .exit)) (now (pairs .exit)) (now (routes .exit)) (now (totals .exit))) (now (holders .exit)) ⌝ }
+{
+    let first = Place {
+        east: first_east,
+        north: first_north,
+    };
+    let second = Place {
+        east: second_east,
+        north: second_north,
+    };
+    share_edits::add_run_for(blocks, runs, pairs, routes, totals, holders, shares, ceilings, contractor, number, first, second)
+}
+
+#[no_mangle]
+pub extern "C" fn yard_remove_run_for(
+    blocks: &mut [u16],
+    runs: &mut [u16],
+    pairs: &mut [u8],
+    routes: &mut [u32],
+    totals: &mut [u32],
+    holders: &mut [u8],
+    shares: &[u8],
+    ceilings: &[u8],
+    contractor: u32,
+    number: u32,
+) -> u32
+    ensures { λ r. ⌜ CalledFor (removeRunFor contractor number) (terms (now (shares .entry)) (now (ceilings .entry)))
+        (tables (now (blocks .entry)) (now (runs .entry)) (now (pairs .entry)) (now (routes .entry)) (now (totals .entry))) (now (holders .entry))
+        r (tables (now (blocks .exit)) (now (runs .exit)) (now (pairs .exit)) (now (routes .exit)) (now (totals .exit))) (now (holders .exit)) ⌝ }
+{
+    share_edits::remove_run_for(blocks, runs, pairs, routes, totals, holders, shares, ceilings, contractor, number)
+}
+
+#[no_mangle]
+pub extern "C" fn yard_move_run_for(
+    blocks: &mut [u16],
+    runs: &mut [u16],
+    pairs: &mut [u8],
+    routes: &mut [u32],
+    totals: &mut [u32],
+    holders: &[u8],
+    shares: &[u8],
+    ceilings: &[u8],
+    contractor: u32,
+    number: u32,
+    first_east: u16,
+    first_north: u16,
+    second_east: u16,
+    second_north: u16,
+) -> u32
+    ensures { λ r. ⌜ CalledFor (moveRunFor contractor number (point «first_east» «first_north») (point «second_east» «second_north»))
+        (terms (now (shares .entry)) (now (ceilings .entry)))
+        (tables (now (blocks .entry)) (now (runs .entry)) (now (pairs .entry)) (now (routes .entry)) (now (totals .entry))) (now (holders .entry))
+        r (tables (now (blocks .exit)) (now (runs .exit)) (now (pairs .exit)) (now (routes .exit)) (now (totals .exit))) (now (holders .entry)) ⌝ }
+{
+    let first = Place {
+        east: first_east,
+        north: first_north,
+    };
+    let second = Place {
+        east: second_east,
+        north: second_north,
+    };
+    share_edits::move_run_for(blocks, runs, pairs, routes, totals, holders, shares, ceilings, contractor, number, first, second)
 }
 
 #[no_mangle]
