@@ -99,13 +99,16 @@ struct yard {
 #define YARD_ROUTE_FOUND 1
 #define YARD_ROUTE_NO_WAY 2
 
-/* Answers. The questions are asked in this order, and the first that fails is the answer. */
+/*
+ * Answers. The questions are asked in this order but where another place is told, and the first that fails is the
+ * answer.
+ */
 #define YARD_DONE 0             /* done; of yard_check: pairs, routes and totals are right */
 #define YARD_WRONG_LENGTH 1     /* a table or list is not as long as stated */
 #define YARD_WRONG_RECORD 2     /* a stored block, run or least charge is not one that these calls write */
-#define YARD_WRONG_NUMBER 3     /* the number is not below 24 */
+#define YARD_WRONG_NUMBER 3     /* the number is not below 24, or the contractor not below 4 */
 #define YARD_NOT_FREE 4         /* adding: the number is taken */
-#define YARD_NOT_TAKEN 5        /* removing, moving, quoting or drawing: the number is free */
+#define YARD_NOT_TAKEN 5        /* removing, moving, quoting or drawing: the number is free, or another contractor's */
 #define YARD_WRONG_COUNT 6      /* adding a block: not 3 to 8 whole corners */
 #define YARD_WRONG_COORDINATE 7 /* a new or moved coordinate is not from 0 to 32,767 */
 #define YARD_NOT_CONVEX 8       /* adding a block: some corner is not strictly left of every side that it is not on */
@@ -114,6 +117,9 @@ struct yard {
 #define YARD_NOT_DRAWN 11       /* checking or drawing: pairs, routes or totals are not what blocks and runs require */
 #define YARD_TOO_MANY_BLOCKS 12 /* yard_quote_duct: more than 8 blocks stand */
 #define YARD_WRONG_CHARGE 13    /* yard_set_charge: the least charge is above 1,000 */
+#define YARD_WRONG_SHARES 18    /* in a contractor's name, after 2: shares, ceilings and holders do not fit together */
+#define YARD_AT_CEILING 19      /* adding for a contractor, after 4: it holds as many runs as it may */
+#define YARD_PROMISED 20        /* adding for a contractor, after 19: the free numbers are promised to the others */
 #define YARD_TOO_FAR 21         /* yard_file_shorten: a step from a corner to the next is not from -128 to 127 */
 #define YARD_OUTSIDE 22         /* a block of version 2, read, shortened or lengthened: a corner not from 0 to 32,767 */
 
@@ -160,6 +166,62 @@ uint32_t yard_move_run(uint16_t *blocks, size_t blocks_len, uint16_t *runs, size
 uint32_t yard_set_charge(uint16_t *blocks, size_t blocks_len, uint16_t *runs, size_t runs_len, uint8_t *pairs,
                          size_t pairs_len, uint32_t *routes, size_t routes_len, uint32_t *totals, size_t totals_len,
                          uint16_t figure);
+
+/*
+ * Shares among contractors. Up to four contractors, 0 to 3, draw on one yard, so that none takes all 24 run numbers.
+ * shares has exactly YARD_CONTRACTORS bytes: how many runs each is promised. ceilings has as many: how many each may
+ * hold at the most, also above 24. Both are only read. holders has exactly YARD_HOLDERS_LEN bytes: run m's is the
+ * contractor that it was added for, or YARD_NOBODY where the run is absent. It is no table of the yard: the caller keeps
+ * it beside the tables, sets it to YARD_NOBODY for a yard without runs, and lends it to every call below, which keeps it
+ * true. A run that is edited by the calls above leaves holders as they were, and the next call below may answer 18.
+ *
+ * Each call asks 1, 2, 18 and 3; adding then 4, 19, 20 and 7, removing 5, moving 5 and 7. 18 fails where a share is
+ * above its ceiling; the shares sum to more than 24; a run that is there has no contractor as its holder, or one that
+ * is not there has any but YARD_NOBODY; a contractor holds more runs than its ceiling; or there are fewer free numbers
+ * than are left of all shares. 19 fails where the contractor holds as many runs as its ceiling, 20 where with one free
+ * number fewer there would be fewer than are left of the others' shares.
+ *
+ * Answer 0 leaves the tables as the same edit in nobody's name does, and the holder of the run the contractor, after a
+ * removal YARD_NOBODY; moving only reads holders. Any other answer changes nothing.
+ *
+ * So from a yard without runs that yard_check answers 0, with all holders YARD_NOBODY, after any list of these calls
+ * and of edits of blocks and of the least charge, shares and ceilings the same in all and within the rules: a contractor
+ * that holds fewer runs than its share finds a free number, and adding there with right coordinates answers 0.
+ */
+#define YARD_CONTRACTORS 4
+#define YARD_HOLDERS_LEN 24
+#define YARD_NOBODY 255
+
+/* Who holds which run, and what is promised. */
+struct yard_shares {
+    uint8_t holders[YARD_HOLDERS_LEN];
+    uint8_t shares[YARD_CONTRACTORS];
+    uint8_t ceilings[YARD_CONTRACTORS];
+};
+
+/* The lists of a struct yard_shares, as YARD_TABLES: yard_remove_run_for(YARD_TABLES(&yard), YARD_SHARES(&all), 2, 5). */
+#define YARD_SHARES(all)                                                                                               \
+    (all)->holders, YARD_HOLDERS_LEN, (all)->shares, YARD_CONTRACTORS, (all)->ceilings, YARD_CONTRACTORS
+
+/* Answers 0 to 4, 7 and 18 to 20. */
+uint32_t yard_add_run_for(uint16_t *blocks, size_t blocks_len, uint16_t *runs, size_t runs_len, uint8_t *pairs,
+                          size_t pairs_len, uint32_t *routes, size_t routes_len, uint32_t *totals, size_t totals_len,
+                          uint8_t *holders, size_t holders_len, const uint8_t *shares, size_t shares_len,
+                          const uint8_t *ceilings, size_t ceilings_len, uint32_t contractor, uint32_t number,
+                          uint16_t first_east, uint16_t first_north, uint16_t second_east, uint16_t second_north);
+
+/* Answers 0 to 3, 5 and 18. */
+uint32_t yard_remove_run_for(uint16_t *blocks, size_t blocks_len, uint16_t *runs, size_t runs_len, uint8_t *pairs,
+                             size_t pairs_len, uint32_t *routes, size_t routes_len, uint32_t *totals, size_t totals_len,
+                             uint8_t *holders, size_t holders_len, const uint8_t *shares, size_t shares_len,
+                             const uint8_t *ceilings, size_t ceilings_len, uint32_t contractor, uint32_t number);
+
+/* Answers 0 to 3, 5, 7 and 18. */
+uint32_t yard_move_run_for(uint16_t *blocks, size_t blocks_len, uint16_t *runs, size_t runs_len, uint8_t *pairs,
+                           size_t pairs_len, uint32_t *routes, size_t routes_len, uint32_t *totals, size_t totals_len,
+                           const uint8_t *holders, size_t holders_len, const uint8_t *shares, size_t shares_len,
+                           const uint8_t *ceilings, size_t ceilings_len, uint32_t contractor, uint32_t number,
+                           uint16_t first_east, uint16_t first_north, uint16_t second_east, uint16_t second_north);
 
 /* Are pairs, routes and totals what blocks and runs require? Changes nothing. Answers 0, 1, 2 or 11. */
 uint32_t yard_check(const uint16_t *blocks, size_t blocks_len, const uint16_t *runs, size_t runs_len,
