@@ -1,6 +1,6 @@
 //! The benchmark: a drag step of the proved planner beside a plain one of the same algorithm, one that draws
-//! everything from nothing, and Graphviz's, over several yards; the two quotes; the two calls that draw; and the two
-//! conversions of a yard file.
+//! everything from nothing, and Graphviz's, over several yards; the two quotes; the two calls that draw; the edits of a
+//! run in a contractor's name; and the two conversions of a yard file.
 
 #[path = "../bindings/abi.rs"]
 #[allow(dead_code)]
@@ -12,6 +12,7 @@ mod pieces;
 #[allow(dead_code)]
 mod plain;
 mod quotes;
+mod shares;
 mod stack;
 #[path = "../bindings/tables.rs"]
 #[allow(dead_code)]
@@ -350,6 +351,8 @@ fn main() {
         }
         // for callgrind: a long file shortened and lengthened again
         ["convert"] => conversions::once(),
+        // for callgrind: a run of a yard edited in nobody's name and in a contractor's
+        ["shares", word] => shares::once(&grid(word)),
         // for callgrind: one bend of a yard, by both calls that draw
         ["pieces", word] => pieces::once(&grid(word).tables()),
         // for callgrind: all routes of the drag yard where every pair's byte says clear, by a move of a run to its own ends

@@ -1,7 +1,7 @@
 //! The greatest depth of stack inside each call, against the figures of `include/yard.h` and what it has its user
 //! reserve: the call runs on a stack painted beforehand.
 
-use crate::{abi::*, conversions, ducts, pieces, quotes, Grid, Tables, CROWDED, TOUCHING};
+use crate::{abi::*, conversions, ducts, pieces, quotes, shares, Grid, Tables, CROWDED, TOUCHING};
 use std::arch::asm;
 
 const SIZE: usize = 1 << 20;
@@ -23,6 +23,9 @@ enum Call {
     RemoveRun,
     MoveRun([u16; 4]),
     SetCharge(u16),
+    AddRunFor([u8; 24], [u16; 4]),
+    RemoveRunFor([u8; 24]),
+    MoveRunFor([u8; 24], [u16; 4]),
     Check,
     Piece(u32, u32, [f64; pieces::POINTS]),
     Bend(u32, u32, [f64; pieces::NINE_POINTS]),
@@ -33,7 +36,8 @@ enum Call {
     QuoteDuct([u32; ducts::QUOTE], Vec<u16>),
 }
 
-const NUMBER: u32 = 8;
+use shares::{CEILINGS, CONTRACTOR, NUMBER, SHARES};
+
 const TABLES: usize = 48_750;
 /// Of the tables and the stack of the calls that a panel makes.
 const PANEL: usize = 65_536;
@@ -55,6 +59,20 @@ extern "C" fn perform(job: *mut Job) {
             Call::RemoveRun => yard_remove_run(b, bl, r, rl, p, pl, w, wl, s, sl, NUMBER),
             Call::MoveRun(e) => yard_move_run(b, bl, r, rl, p, pl, w, wl, s, sl, NUMBER, e[0], e[1], e[2], e[3]),
             Call::SetCharge(figure) => yard_set_charge(b, bl, r, rl, p, pl, w, wl, s, sl, *figure),
+            Call::AddRunFor(h, e) => {
+                let (q, ql, c, cl) = (SHARES.as_ptr(), SHARES.len(), CEILINGS.as_ptr(), CEILINGS.len());
+                let [e0, n0, e1, n1] = *e;
+                yard_add_run_for(b, bl, r, rl, p, pl, w, wl, s, sl, h.as_mut_ptr(), 24, q, ql, c, cl, CONTRACTOR, NUMBER, e0, n0, e1, n1)
+            }
+            Call::RemoveRunFor(h) => {
+                let (q, ql, c, cl) = (SHARES.as_ptr(), SHARES.len(), CEILINGS.as_ptr(), CEILINGS.len());
+                yard_remove_run_for(b, bl, r, rl, p, pl, w, wl, s, sl, h.as_mut_ptr(), 24, q, ql, c, cl, CONTRACTOR, NUMBER)
+            }
+            Call::MoveRunFor(h, e) => {
+                let (q, ql, c, cl) = (SHARES.as_ptr(), SHARES.len(), CEILINGS.as_ptr(), CEILINGS.len());
+                let [e0, n0, e1, n1] = *e;
+                yard_move_run_for(b, bl, r, rl, p, pl, w, wl, s, sl, h.as_ptr(), 24, q, ql, c, cl, CONTRACTOR, NUMBER, e0, n0, e1, n1)
+            }
             Call::Check => yard_check(b, bl, r, rl, p, pl, w, wl, s, sl),
             Call::Piece(run, piece, q) => yard_piece(b, bl, r, rl, p, pl, w, wl, s, sl, *run, *piece, &mut 0, 1, q.as_mut_ptr(), q.len()),
             Call::Bend(run, piece, q) => yard_bend(b, bl, r, rl, p, pl, w, wl, s, sl, *run, *piece, &mut 0, 1, q.as_mut_ptr(), q.len()),
@@ -144,7 +162,7 @@ fn conversions() -> Vec<(Tables, Call)> {
 }
 
 /// How many of the calls below a panel makes.
-const PANELS: usize = 11;
+const PANELS: usize = 14;
 
 /// What each call that edits, checks or draws is tried with, over a yard; the route's quote and the replay, which no panel
 /// makes, last.
@@ -157,6 +175,8 @@ fn calls(yard: &Grid) -> [(&'static str, Vec<(Tables, Call)>); PANELS + 2] {
     perform(&mut Job { t: &mut without, call: Call::RemoveRun });
     let move_blocks = yard.displacements(3).into_iter().map(|d| (full.clone(), Call::MoveBlock(d.0, d.1))).collect();
     let move_runs = [[0, 0, 32767, 32767], [7, 9, 7, 9]].map(|ends| (full.clone(), Call::MoveRun(ends))).to_vec();
+    let add_for = vec![(without.clone(), Call::AddRunFor(shares::holders(&without), yard.ends(NUMBER as u16)))];
+    let move_for = [[0, 0, 32767, 32767], [7, 9, 7, 9]].map(|ends| (full.clone(), Call::MoveRunFor(shares::holders(&full), ends))).to_vec();
     let set_charges = [0, 500, 1000].map(|figure| (full.clone(), Call::SetCharge(figure))).to_vec();
     // a straight, a bend, the last piece of a short route, and none
     let numbers = || (0..24).flat_map(|run| [0, 1, 2, u32::MAX].map(|piece| (run, piece)));
@@ -176,6 +196,9 @@ fn calls(yard: &Grid) -> [(&'static str, Vec<(Tables, Call)>); PANELS + 2] {
         ("yard_remove_run", vec![(full.clone(), Call::RemoveRun)]),
         ("yard_move_run", move_runs),
         ("yard_set_charge", set_charges),
+        ("yard_add_run_for", add_for),
+        ("yard_remove_run_for", vec![(full.clone(), Call::RemoveRunFor(shares::holders(&full)))]),
+        ("yard_move_run_for", move_for),
         ("yard_check", vec![(full.clone(), Call::Check)]),
         ("yard_piece", pieces),
         ("yard_bend", bends),
@@ -206,14 +229,14 @@ pub fn print() {
     for (most, (_, calls)) in depths.iter_mut().zip(calls(&TOUCHING)) {
         most.1 = most.1.max(greatest(&calls) - frame);
     }
-    depths.iter().for_each(|(name, bytes)| println!("{name:<18} {bytes:>6}"));
+    depths.iter().for_each(|(name, bytes)| println!("{name:<19} {bytes:>6}"));
     let most = depths[..PANELS].iter().map(|d| d.1).max().unwrap_or(0);
     let (route, replay) = (depths[PANELS].1, depths[PANELS + 1].1);
     let file = greatest(&conversions()) - frame;
-    println!("{:<18} {file:>6} with yard_file_lengthen", "yard_file_shorten");
+    println!("{:<19} {file:>6} with yard_file_lengthen", "yard_file_shorten");
     let quote = |y: &ducts::Yard| (y.tables(), Call::QuoteDuct([0; ducts::QUOTE], vec![0; ducts::CROSSINGS]));
     let duct = greatest(&ducts::YARDS.iter().map(quote).collect::<Vec<_>>()) - frame;
-    println!("{:<18} {duct:>6} over the yards of the duct quote", "yard_quote_duct");
+    println!("{:<19} {duct:>6} over the yards of the duct quote", "yard_quote_duct");
     println!("tables {TABLES} + stack {most} of a panel's calls = {} bytes, to stay below {PANEL}", TABLES + most);
     assert!(TABLES + most < PANEL, "a panel's call takes too much stack");
     for (what, bytes, figure, reserve) in [

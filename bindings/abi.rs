@@ -34,6 +34,21 @@ extern "C" {
         b: *mut u16, bl: usize, r: *mut u16, rl: usize, p: *mut u8, pl: usize, w: *mut u32, wl: usize, t: *mut u32, tl: usize,
         figure: u16,
     ) -> u32;
+    pub fn yard_add_run_for(
+        b: *mut u16, bl: usize, r: *mut u16, rl: usize, p: *mut u8, pl: usize, w: *mut u32, wl: usize, t: *mut u32, tl: usize,
+        holders: *mut u8, holders_len: usize, shares: *const u8, shares_len: usize, ceilings: *const u8, ceilings_len: usize,
+        contractor: u32, number: u32, e0: u16, n0: u16, e1: u16, n1: u16,
+    ) -> u32;
+    pub fn yard_remove_run_for(
+        b: *mut u16, bl: usize, r: *mut u16, rl: usize, p: *mut u8, pl: usize, w: *mut u32, wl: usize, t: *mut u32, tl: usize,
+        holders: *mut u8, holders_len: usize, shares: *const u8, shares_len: usize, ceilings: *const u8, ceilings_len: usize,
+        contractor: u32, number: u32,
+    ) -> u32;
+    pub fn yard_move_run_for(
+        b: *mut u16, bl: usize, r: *mut u16, rl: usize, p: *mut u8, pl: usize, w: *mut u32, wl: usize, t: *mut u32, tl: usize,
+        holders: *const u8, holders_len: usize, shares: *const u8, shares_len: usize, ceilings: *const u8, ceilings_len: usize,
+        contractor: u32, number: u32, e0: u16, n0: u16, e1: u16, n1: u16,
+    ) -> u32;
     pub fn yard_check(
         b: *const u16, bl: usize, r: *const u16, rl: usize, p: *const u8, pl: usize, w: *const u32, wl: usize,
         t: *const u32, tl: usize,

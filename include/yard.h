@@ -6,9 +6,9 @@
  * The caller owns five tables, best in a struct yard, and lends them to every call but yard_read and the two that
  * convert a yard file, each as a pointer and a length in elements; a quote is lent blocks and runs alone. The lengths
  * must be exactly those below. Together the tables take 48,750 bytes. No table or list that a call is lent may overlap
- * another, be it corners, a file, an item, answers, an end, a quote, a kind, points, a buffer or a length. Every pointer
- * must be valid for its length and aligned for its element type; NULL is allowed with length 0 alone, and is then an
- * empty list.
+ * another, be it corners, holders, shares, ceilings, a file, an item, answers, an end, a quote, a kind, points, a
+ * buffer or a length. Every pointer must be valid for its length and aligned for its element type; NULL is allowed with
+ * length 0 alone, and is then an empty list.
  *
  * A call keeps nothing: there is no hidden state, no heap and no I/O. Calls on different tables may run at the same
  * time; calls on the same tables must not, except those that take them const beside each other. A call uses about 4 KiB
@@ -171,9 +171,9 @@ uint32_t yard_set_charge(uint16_t *blocks, size_t blocks_len, uint16_t *runs, si
  * Shares among contractors. Up to four contractors, 0 to 3, draw on one yard, so that none takes all 24 run numbers.
  * shares has exactly YARD_CONTRACTORS bytes: how many runs each is promised. ceilings has as many: how many each may
  * hold at the most, also above 24. Both are only read. holders has exactly YARD_HOLDERS_LEN bytes: run m's is the
- * contractor that it was added for, or YARD_NOBODY where the run is absent. It is no table of the yard: the caller keeps
- * it beside the tables, sets it to YARD_NOBODY for a yard without runs, and lends it to every call below, which keeps it
- * true. A run that is edited by the calls above leaves holders as they were, and the next call below may answer 18.
+ * contractor that it was added for, or YARD_NOBODY where the run is absent. It is no table of the yard: the caller
+ * keeps it beside the tables, sets it to YARD_NOBODY for a yard without runs, and lends it to the calls below, which
+ * keep it true. The calls above know no holders: a run that they add or remove makes the calls below answer 18.
  *
  * Each call asks 1, 2, 18 and 3; adding then 4, 19, 20 and 7, removing 5, moving 5 and 7. 18 fails where a share is
  * above its ceiling; the shares sum to more than 24; a run that is there has no contractor as its holder, or one that
@@ -185,8 +185,9 @@ uint32_t yard_set_charge(uint16_t *blocks, size_t blocks_len, uint16_t *runs, si
  * removal YARD_NOBODY; moving only reads holders. Any other answer changes nothing.
  *
  * So from a yard without runs that yard_check answers 0, with all holders YARD_NOBODY, after any list of these calls
- * and of edits of blocks and of the least charge, shares and ceilings the same in all and within the rules: a contractor
- * that holds fewer runs than its share finds a free number, and adding there with right coordinates answers 0.
+ * and of edits of blocks and of the least charge, shares and ceilings the same in all and within the rules: a
+ * contractor that holds fewer runs than its share finds a free number, and adding there with right coordinates
+ * answers 0.
  */
 #define YARD_CONTRACTORS 4
 #define YARD_HOLDERS_LEN 24
@@ -199,7 +200,7 @@ struct yard_shares {
     uint8_t ceilings[YARD_CONTRACTORS];
 };
 
-/* The lists of a struct yard_shares, as YARD_TABLES: yard_remove_run_for(YARD_TABLES(&yard), YARD_SHARES(&all), 2, 5). */
+/* The lists of a struct yard_shares: yard_remove_run_for(YARD_TABLES(&yard), YARD_SHARES(&all), 2, 5). */
 #define YARD_SHARES(all)                                                                                               \
     (all)->holders, YARD_HOLDERS_LEN, (all)->shares, YARD_CONTRACTORS, (all)->ceilings, YARD_CONTRACTORS
 

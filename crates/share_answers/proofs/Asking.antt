@@ -1,7 +1,7 @@
 -- The number that each way through the questions ends in.
-use mathlib.Core.Path.{_≡_, refl, sym, _∙_}
+use mathlib.Core.Path.{_≡_, sym, _∙_}
 use mathlib.Core.List.{List, [], _∷_}
-use mathlib.Core.Bool.{Bool, true, false, _&&_, not}
+use mathlib.Core.Bool.{Bool, true, false, not}
 use Prim.Native.Nat.{ℕ, _+_, _*_, _<_, _≤_}
 use native.Mathlib.Omega.{arith}
 use lib.Dec.{ltb, eqb}
@@ -11,7 +11,7 @@ use Rattle.geometry.specs.Words.{word}
 use Rattle.book.specs.Questions.{ask, firstNo}
 use Rattle.book.specs.Book.{free}
 use Rattle.book.proofs.Questions.{first-yes, first-more}
-use Rattle.shares.specs.Shares.{Terms, terms, held, freeNumbers, unfilledOthers, sharesRight}
+use Rattle.shares.specs.Shares.{Terms, held, freeNumbers, unfilledOthers, sharesRight}
 use Rattle.shares.proofs.Going.{names}
 use Rattle.share_answers.specs.inner.Asked.{runPlaces, namedAsked, addAsked, ownAsked}
 use Rattle.share_answers.proofs.Loops.{free-at}
@@ -39,11 +39,11 @@ module _ (r hs : List ℕ) (t : Terms) (c m : ℕ) where
   module _ (v : ℕ) (f : v ≡ firstNo (namedAsked (runPlaces r) t hs c m)) where
     pub add-unnamed : (v ≡ 0 → ⊥) → v ≡ firstNo (addAsked (runPlaces r) t hs c m)
     unfolding namedAsked addAsked
-    add-unnamed n = f ∙ first-more (namedAsked (runPlaces r) t hs c m) (ask 4 _ ∷ ask 19 _ ∷ ask 20 _ ∷ []) (λ z. n (f ∙ z))
+    add-unnamed n = f ∙ first-more (namedAsked (runPlaces r) t hs c m) _ (λ z. n (f ∙ z))
 
     pub own-unnamed : (v ≡ 0 → ⊥) → v ≡ firstNo (ownAsked (runPlaces r) t hs c m)
     unfolding namedAsked ownAsked
-    own-unnamed n = f ∙ first-more (namedAsked (runPlaces r) t hs c m) (ask 5 _ ∷ []) (λ z. n (f ∙ z))
+    own-unnamed n = f ∙ first-more (namedAsked (runPlaces r) t hs c m) _ (λ z. n (f ∙ z))
 
     module _ (z : v ≡ 0) where
       right : sharesRight (runPlaces r) t hs ≡ true

@@ -1,14 +1,13 @@
 -- What the loops over holders, shares and runs keep, and the answers of the tests.
-use mathlib.Core.Path.{_≡_, refl, sym, ap, _∙_}
+use mathlib.Core.Path.{_≡_, refl, sym, _∙_}
 use mathlib.Core.List.{List, []}
-use mathlib.Core.Bool.{Bool, true, false, _&&_, not}
-use Prim.Native.Nat.{ℕ, suc, _+_, _*_, _-_, _<_, _≤_}
+use mathlib.Core.Bool.{Bool, true, false, not}
+use Prim.Native.Nat.{ℕ, _+_, _*_, _-_, _<_, _≤_}
 use native.Mathlib.Numerals.{add-one}
 use native.Mathlib.Omega.{arith}
 use lib.Dec.{ltb, leb, eqb}
-use lib.ListN.{length}
-use borrow.Author.Tests.{not-true, not-false, le-leb, lt-leb}
-use Rattle.geometry.specs.Words.{Point, word}
+use borrow.Author.Tests.{not-true, not-false}
+use Rattle.geometry.specs.Words.{word}
 use Rattle.lists.specs.Lists.{allBelow}
 use Rattle.tables.specs.Tables.{stored}
 use Rattle.book.specs.Book.{free}

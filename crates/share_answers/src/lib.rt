@@ -1,6 +1,6 @@
 // Questions 18, 3, 4, 19 and 20, and 5, of a run that is edited in a contractor's name: over the run table, the holders, the shares and the ceilings.
 ghost use mathlib.Core.Path.{_≡_};
-ghost use Prim.Native.Nat.{ℕ, _-_, _<_, _≤_};
+ghost use Prim.Native.Nat.{_-_, _<_, _≤_};
 ghost use lib.Dec.{leb};
 ghost use lib.ListN.{length};
 ghost use Rattle.lists.specs.Lists.{allBelow};

@@ -2,7 +2,6 @@
 // Each call answers the number of the first question that is answered no, and then changes no table and no holder; 0 means done.
 ghost use mathlib.Core.Path.{_≡_};
 ghost use mathlib.Core.List.{[]};
-ghost use lib.ListN.{length};
 ghost use Rattle.geometry.specs.Words.{pointOf};
 ghost use Rattle.tables.specs.Tables.{tables};
 ghost use Rattle.shares.specs.Shares.{terms};

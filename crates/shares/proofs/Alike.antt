@@ -1,6 +1,6 @@
 -- The yard's tables depend on the edits that were made, never on who holds a run.
 use mathlib.Core.Path.{_≡_, refl, sym, subst}
-use mathlib.Core.List.{List, [], _∷_, map}
+use mathlib.Core.List.{List, _∷_, map}
 use Prim.Native.Nat.{ℕ, zero, suc}
 use native.Mathlib.Omega.{arith}
 use Rattle.tables.specs.Tables.{Tables}

@@ -1,19 +1,18 @@
 -- How holdings, free numbers and unfilled shares change where one place of the runs and one holder is written.
-use mathlib.Core.Path.{_≡_, refl, sym, ap, _∙_}
+use mathlib.Core.Path.{_≡_, refl, sym, ap}
 use mathlib.Core.Logic.{_≢_}
 use mathlib.Core.List.{List, [], _∷_}
-use mathlib.Core.Bool.{Bool, true, false, cond}
-use Prim.Native.Nat.{ℕ, _+_, _-_, _<_, _≤_}
-use native.Mathlib.Decide.{ℕ-discrete}
+use mathlib.Core.Bool.{true, false, cond}
+use Prim.Native.Nat.{ℕ, _+_, _-_, _<_}
 use native.Mathlib.Omega.{arith}
 use lib.Dec.{eqb}
-use lib.ListN.{length, getD, set}
+use lib.ListN.{length, set}
 use lib.Seq.{getD-set-same, getD-set-other}
 use borrow.Author.Tests.{eq-eqb, ne-eqb}
 use Rattle.geometry.specs.Words.{Point, word}
 use Rattle.book.specs.Book.{free}
-use Rattle.shares.specs.Shares.{sumBelow, one, held, freeNumbers, unfilledOf, unfilled, unfilledOthers}
-use Rattle.shares.proofs.Sums.{sum-change, sum-same}
+use Rattle.shares.specs.Shares.{one, held, freeNumbers, unfilledOf, unfilled, unfilledOthers}
+use Rattle.shares.proofs.Sums.{sum-change}
 
 module _ (runs : List (List Point)) (m : ℕ) (ps : List Point) where
   pub free-other : (k : ℕ) → k ≢ m → free (set runs m ps) k ≡ free runs k

@@ -1,14 +1,13 @@
 -- What holds before and after every call in a contractor's name: the tables are a sound book's drawing, and question 18 is answered yes.
 use mathlib.Core.Path.{_≡_, refl, sym, ap, _∙_}
-use mathlib.Core.List.{List, [], _∷_}
+use mathlib.Core.List.{List, _∷_}
 use mathlib.Core.Bool.{true, false, _&&_, not}
-use Prim.Native.Nat.{ℕ, _<_, _≤_}
+use Prim.Native.Nat.{ℕ, _<_}
 use native.Mathlib.Decide.{ℕ-discrete}
 use native.Mathlib.Omega.{arith}
-use lib.Dec.{ltb, leb, eqb}
-use lib.ListN.{length, length-set, getD-replicate}
+use lib.Dec.{ltb, eqb}
+use lib.ListN.{length, set, length-set, getD-replicate}
 use borrow.Author.Tests.{ltb-true, leb-true, eqb-true, eq-eqb, ne-eqb, not-true}
-use Rattle.lists.specs.Lists.{allBelow}
 use Rattle.lists.proofs.Every.{both}
 use Rattle.geometry.specs.Words.{Point, word}
 use Rattle.tables.specs.Tables.{Tables, records}
@@ -25,17 +24,20 @@ use Rattle.shares.specs.Shares.{Terms, sumBelow, held, freeNumbers, unfi
 use Rattle.shares.specs.Calls.{EditFor, addRunFor, removeRunFor, moveRunFor, plain, ownRun, questionsFor, answerOverFor, holdersAfter, CalledFor}
 use Rattle.shares.specs.Promise.{Turn, OffRuns, CallsFor, noTurns, callFor, between, Opened}
 use Rattle.shares.proofs.Sums.{sum-same, count-all, count-none}
-use Rattle.shares.proofs.Keeping.{Kept, kept-of, kept-yes, add-kept, remove-kept, move-kept}
+use Rattle.shares.proofs.Keeping.{terms-kept, Kept, kept-of, kept-yes, add-kept, remove-kept, move-kept}
 
 pub lists-sized : (t : Terms) (hs : List ℕ) → listsRight t hs ≡ true → length hs ≡ 24
 unfolding listsRight
 lists-sized t hs h =
     eqb-true _ 24 (both (eqb (length hs) 24) (eqb (length (t .shares)) 4) (both (eqb (length hs) 24 && eqb (length (t .shares)) 4) (eqb (length (t .ceilings)) 4) h .0) .0)
 
-lists-after : (t : Terms) (hs : List ℕ) (d : EditFor) → listsRight t hs ≡ true → listsRight t (holdersAfter d hs) ≡ true
+lists-set : (t : Terms) (hs : List ℕ) (m v : ℕ) → listsRight t hs ≡ true → listsRight t (set hs m v) ≡ true
 unfolding listsRight
-lists-after t hs (addRunFor c m p q) h = rw (length-set hs m c) h
-lists-after t hs (removeRunFor c m) h = rw (length-set hs m 255) h
+lists-set t hs m v h = rw (length-set hs m v) h
+
+lists-after : (t : Terms) (hs : List ℕ) (d : EditFor) → listsRight t hs ≡ true → listsRight t (holdersAfter d hs) ≡ true
+lists-after t hs (addRunFor c m p q) h = lists-set t hs m _ h
+lists-after t hs (removeRunFor c m) h = lists-set t hs m _ h
 lists-after t hs (moveRunFor c m p q) h = h
 
 pub names : (c m : ℕ) → ltb c 4 && ltb m 24 ≡ true → (c < 4) × (m < 24)
@@ -148,18 +150,13 @@ module _ (t : Terms) (runs : List (List Point)) (hs : List ℕ) (rules : termsRi
   unfolding unfilled
   all-unfilled = sum-same (λ c. unfilledOf hs (t .shares) c) (λ c. word (t .shares) c) 4 (λ c l. omega (arith, none-held c l))
 
-  total : sumBelow 4 (λ c. word (t .shares) c) ≤ 24
-  unfolding termsRight
-  total =
-      leb-true _ 24 (both (allBelow 4 (λ c. leb (word (t .shares) c) (word (t .ceilings) c))) (leb (sumBelow 4 (λ c. word (t .shares) c)) 24) rules .1)
-
   empty-kept : Kept runs t hs
   empty-kept =
       record {
         terms = rules;
         holders = λ m l. rw (empty m l, unheld m l);
         holdings = λ c l. omega (arith, none-held c l);
-        enough = omega (arith, all-free, all-unfilled, total);
+        enough = omega (arith, all-free, all-unfilled, terms-kept t rules .1);
       }
 
 pub opened-going : (t : Terms) (T : Tables) (hs : List ℕ) → Opened t T hs → Going t T hs

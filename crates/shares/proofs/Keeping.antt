@@ -1,13 +1,13 @@
 -- Question 18 stays true: an accepted call leaves right holders, holdings below their ceilings, and free numbers enough.
-use mathlib.Core.Path.{_≡_, refl, sym, ap, _∙_}
+use mathlib.Core.Path.{_≡_, refl, sym, ap}
 use mathlib.Core.Logic.{_≢_}
 use mathlib.Core.List.{List, [], _∷_}
-use mathlib.Core.Bool.{Bool, true, false, _&&_, cond}
+use mathlib.Core.Bool.{true, false, _&&_}
 use Prim.Native.Nat.{ℕ, _+_, _-_, _<_, _≤_}
 use native.Mathlib.Decide.{ℕ-discrete}
 use native.Mathlib.Omega.{arith}
-use lib.Dec.{ltb, leb, eqb}
-use lib.ListN.{length, getD, set}
+use lib.Dec.{leb, eqb}
+use lib.ListN.{length, set}
 use lib.Seq.{getD-set-same, getD-set-other, set-getD}
 use borrow.Author.Tests.{eq-eqb, ne-eqb, lt-ltb, le-leb, leb-true, eqb-true}
 use Rattle.geometry.specs.Words.{Point, word}
@@ -15,9 +15,15 @@ use Rattle.lists.specs.Lists.{allBelow}
 use Rattle.lists.proofs.Below.{all-at, all-yes}
 use Rattle.lists.proofs.Every.{both}
 use Rattle.book.specs.Book.{free}
-use Rattle.shares.specs.Shares.{Terms, sumBelow, one, held, freeNumbers, unfilledOf, unfilled, unfilledOthers, holderRight, termsRight, holdersRight, holdingsRight, sharesRight}
-use Rattle.shares.proofs.Sums.{sum-same}
+use Rattle.shares.specs.Shares.{Terms, sumBelow, one, held, freeNumbers, unfilled, unfilledOthers, holderRight, termsRight, holdersRight, holdingsRight, sharesRight}
 use Rattle.shares.proofs.Counts.{free-other, free-change, free-filled, free-emptied, held-change, unfilled-change, unfilled-split}
+
+-- the terms in parts
+pub terms-kept : (t : Terms) → termsRight t ≡ true → ((c : ℕ) → c < 4 → word (t .shares) c ≤ word (t .ceilings) c) × (sumBelow 4 (λ c. word (t .shares) c) ≤ 24)
+unfolding termsRight
+terms-kept t h =
+    let a = both (allBelow 4 (λ c. leb (word (t .shares) c) (word (t .ceilings) c))) (leb (sumBelow 4 (λ c. word (t .shares) c)) 24) h in
+    (λ c l. leb-true _ _ (all-at (λ k. leb (word (t .shares) k) (word (t .ceilings) k)) 4 c (a .0) l), leb-true _ 24 (a .1))
 
 -- question 18 in parts
 pub record Kept (runs : List (List Point)) (t : Terms) (hs : List ℕ) : Type 0 where

@@ -1,35 +1,26 @@
 -- After any list of calls whoever holds fewer runs than promised finds a free number and is not turned down there.
-use mathlib.Core.Path.{_≡_, refl, sym, _∙_}
+use mathlib.Core.Path.{_≡_, sym, _∙_}
 use mathlib.Core.List.{List}
 use mathlib.Core.Bool.{true, _&&_}
 use Prim.Native.Nat.{ℕ, _+_, _*_, _<_, _≤_}
 use native.Mathlib.Omega.{arith}
-use lib.Dec.{leb, eqb}
-use borrow.Author.Tests.{lt-ltb, le-leb, leb-true, eqb-true, eq-eqb}
-use Rattle.lists.specs.Lists.{allBelow}
-use Rattle.lists.proofs.Below.{all-at}
-use Rattle.lists.proofs.Every.{both}
+use lib.Dec.{eqb}
+use borrow.Author.Tests.{lt-ltb, le-leb, eqb-true, eq-eqb}
 use Rattle.geometry.specs.Words.{Point, word}
 use Rattle.tables.specs.Tables.{Tables, records}
 use Rattle.records.specs.Questions.{placeRight}
 use Rattle.book.specs.Questions.{firstNo}
-use Rattle.book.specs.Book.{Book, free}
+use Rattle.book.specs.Book.{free}
 use Rattle.book.specs.Edits.{bookOf}
 use Rattle.book.proofs.Stored.{run-free}
 use Rattle.book.proofs.Demand3.{drawn-book}
-use Rattle.shares.specs.Shares.{Terms, sumBelow, held, freeNumbers, unfilledOf, unfilled, unfilledOthers, termsRight, sharesRight}
+use Rattle.shares.specs.Shares.{Terms, held, freeNumbers, unfilledOf, unfilled, unfilledOthers, sharesRight}
 use Rattle.shares.specs.Calls.{addRunFor, questionsFor}
 use Rattle.shares.specs.Promise.{Turn, CallsFor, Opened, FreeNumber, Promise, KeepsPromise}
 use Rattle.shares.proofs.Sums.{some-below, sum-part}
 use Rattle.shares.proofs.Counts.{unfilled-split}
-use Rattle.shares.proofs.Keeping.{Kept, kept-of}
+use Rattle.shares.proofs.Keeping.{terms-kept, Kept, kept-of}
 use Rattle.shares.proofs.Going.{Going, answerFor, drawn-for, going-all, opened-going}
-
-share-below : (t : Terms) (c : ℕ) → termsRight t ≡ true → c < 4 → word (t .shares) c ≤ word (t .ceilings) c
-unfolding termsRight
-share-below t c h l =
-    let a = both (allBelow 4 (λ k. leb (word (t .shares) k) (word (t .ceilings) k))) (leb (sumBelow 4 (λ k. word (t .shares) k)) 24) h in
-    leb-true _ _ (all-at (λ k. leb (word (t .shares) k) (word (t .ceilings) k)) 4 c (a .0) l)
 
 module _ (t : Terms) (T : Tables) (hs : List ℕ) (g : Going t T hs) where
   -- question 18 as the tables say it
@@ -57,7 +48,7 @@ module _ (t : Terms) (T : Tables) (hs : List ℕ) (g : Going t T hs) where
     unfolding questionsFor firstNo
     grants m p q lm z r =
         let spare : unfilledOthers hs (t .shares) c + 1 ≤ freeNumbers (g .book .runs) = omega (arith, kept .enough, unfilled-split hs (t .shares) c lc) in
-        let below : held hs c < word (t .ceilings) c = omega (arith, share-below t c (kept .terms) lc) in
+        let below : held hs c < word (t .ceilings) c = omega (arith, terms-kept t (kept .terms) .0 c lc) in
         rw (g .lists, g .right, lt-ltb c 4 lc, lt-ltb m 24 lm, free-word m lm ∙ eq-eqb _ 0 z, lt-ltb _ _ below, le-leb _ _ spare, r)
 
   promise : Promise t T hs

@@ -9,7 +9,7 @@ use Rattle.geometry.specs.Words.{Point, word}
 use Rattle.tables.specs.Tables.{Tables, records}
 use Rattle.records.specs.Questions.{placeRight, recordsRight}
 use Rattle.book.specs.Questions.{Question, ask, firstNo, lengthsRight, numberRight}
-use Rattle.book.specs.Book.{Edit, addRun, removeRun, moveRun, Book, free}
+use Rattle.book.specs.Book.{Edit, addRun, removeRun, moveRun, free}
 use Rattle.book.specs.Edits.{bookOf, Called}
 use Rattle.shares.specs.Shares.{Terms, listsRight, sharesRight, belowCeiling, sparesOthers}
 

@@ -200,7 +200,20 @@ pub extern "C" fn yard_add_run_for(
         east: second_east,
         north: second_north,
     };
-    share_edits::add_run_for(blocks, runs, pairs, routes, totals, holders, shares, ceilings, contractor, number, first, second)
+    share_edits::add_run_for(
+        blocks,
+        runs,
+        pairs,
+        routes,
+        totals,
+        holders,
+        shares,
+        ceilings,
+        contractor,
+        number,
+        first,
+        second,
+    )
 }
 
 #[no_mangle]
@@ -220,7 +233,18 @@ pub extern "C" fn yard_remove_run_for(
         (tables (now (blocks .entry)) (now (runs .entry)) (now (pairs .entry)) (now (routes .entry)) (now (totals .entry))) (now (holders .entry))
         r (tables (now (blocks .exit)) (now (runs .exit)) (now (pairs .exit)) (now (routes .exit)) (now (totals .exit))) (now (holders .exit)) ⌝ }
 {
-    share_edits::remove_run_for(blocks, runs, pairs, routes, totals, holders, shares, ceilings, contractor, number)
+    share_edits::remove_run_for(
+        blocks,
+        runs,
+        pairs,
+        routes,
+        totals,
+        holders,
+        shares,
+        ceilings,
+        contractor,
+        number,
+    )
 }
 
 #[no_mangle]
@@ -253,7 +277,20 @@ pub extern "C" fn yard_move_run_for(
         east: second_east,
         north: second_north,
     };
-    share_edits::move_run_for(blocks, runs, pairs, routes, totals, holders, shares, ceilings, contractor, number, first, second)
+    share_edits::move_run_for(
+        blocks,
+        runs,
+        pairs,
+        routes,
+        totals,
+        holders,
+        shares,
+        ceilings,
+        contractor,
+        number,
+        first,
+        second,
+    )
 }
 
 #[no_mangle]

@@ -2,7 +2,7 @@ use Rattle.share_answers.proofs.Loops.{SumTo, sum-none, sum-next, free-
 use Rattle.shares.specs.Shares.{one}
 use Rattle.share_answers.specs.inner.Asked.{runPlaces}
 use Rattle.book.specs.Book.{free}
-use Prim.Native.Nat.{_+_, _-_, _*_, _≤_}
+use Prim.Native.Nat.{_-_, _≤_}
 use native.Mathlib.Omega.{arith}
 use borrow.Author.Needs.{needs}
 use Rattle.share_answers.proofs.free_numbers.Statement.{statement}

@@ -2,7 +2,7 @@ use Rattle.share_answers.proofs.Loops.{SumTo, sum-none, sum-next, count
 use Rattle.shares.specs.Shares.{one}
 use lib.Dec.{eqb}
 use Rattle.geometry.specs.Words.{word}
-use Prim.Native.Nat.{_+_, _-_, _*_, _≤_}
+use Prim.Native.Nat.{_-_, _≤_}
 use native.Mathlib.Omega.{arith}
 use borrow.Author.Needs.{needs}
 use Rattle.share_answers.proofs.held.Statement.{statement}

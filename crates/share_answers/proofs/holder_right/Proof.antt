@@ -1,5 +1,4 @@
 use Rattle.share_answers.proofs.Loops.{holder-absent, holder-present}
-use borrow.Author.Needs.{needs}
 use Rattle.share_answers.proofs.holder_right.Statement.{statement}
 use Rattle.share_answers.proofs.holder_right.Tie as tie
 

@@ -7,7 +7,7 @@ use Rattle.shares.specs.Shares.{holderRight, holdersRight}
 use Rattle.share_answers.specs.inner.Asked.{runPlaces}
 use Rattle.book.specs.Book.{free}
 use Rattle.geometry.specs.Words.{word}
-use Prim.Native.Nat.{_+_, _-_, _*_, _≤_}
+use Prim.Native.Nat.{_-_, _≤_}
 use native.Mathlib.Omega.{arith}
 use borrow.Author.Needs.{needs}
 use Rattle.share_answers.proofs.holders_right.Statement.{statement}

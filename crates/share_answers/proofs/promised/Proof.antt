@@ -1,6 +1,6 @@
 use Rattle.share_answers.proofs.Loops.{SumTo, sum-none, sum-next, sum-done}
 use Rattle.geometry.specs.Words.{word}
-use Prim.Native.Nat.{_+_, _-_, _*_, _≤_}
+use Prim.Native.Nat.{_-_, _*_, _≤_}
 use native.Mathlib.Omega.{arith}
 use borrow.Author.Needs.{needs}
 use Rattle.share_answers.proofs.promised.Statement.{statement}

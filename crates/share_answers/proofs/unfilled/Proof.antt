@@ -1,6 +1,6 @@
 use borrow.Author.Needs.{needs}
 use native.Mathlib.Omega.{arith}
-use Prim.Native.Nat.{_+_, _-_, _*_, _≤_}
+use Prim.Native.Nat.{_-_, _*_, _≤_}
 use Rattle.shares.specs.Shares.{unfilledOf}
 use Rattle.share_answers.proofs.Loops.{SumTo, sum-none, sum-next, left-counted, unfilled-is}
 use Rattle.share_answers.proofs.unfilled.Statement.{statement}

@@ -1,11 +1,10 @@
-use native.Mathlib.Omega.{arith}
 use Rattle.share_answers.proofs.Loops.{own-within, others-are}
 use borrow.Author.Needs.{needs}
 use Rattle.share_answers.proofs.unfilled_others.Statement.{statement}
 use Rattle.share_answers.proofs.unfilled_others.Tie as tie
 
 sub-result : tie.Need-sub-result
-sub-result c = search own-within
+sub-result c = search (own-within, needs)
 
 returns : tie.Need-returns
 returns c = search others-are
