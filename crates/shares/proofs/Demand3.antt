@@ -1,63 +1,51 @@
--- Demand 3 with the calls in a contractor's name among the edits.
-use mathlib.Core.Path.{_≡_, refl, sym, ap, _∙_}
+-- Demand 3 with the edits in a contractor's name in the list, proved: by induction over the calls, the tables stay the drawing of the book.
+use mathlib.Core.Path.{_≡_, refl, sym, ap, _∙_, subst}
 use mathlib.Core.List.{List}
 use Prim.Native.Nat.{ℕ, zero, suc}
 use native.Mathlib.Decide.{ℕ-discrete}
 use Rattle.geometry.specs.Words.{word}
 use Rattle.tables.specs.Tables.{Tables, pairIndex}
-use Rattle.book.specs.Book.{Edit, Book, target, emptyBook, answer, step}
+use Rattle.book.specs.Book.{Book, target, emptyBook, step}
 use Rattle.book.specs.Drawing.{Drawn}
 use Rattle.book.specs.History.{MayRewrite}
-use Rattle.book.proofs.Sound.{Sound, empty-sound, step-refused}
-use Rattle.book.proofs.Demand3.{started-drawn, call-drawn}
+use Rattle.book.proofs.Sound.{Sound, empty-sound}
+use Rattle.book.proofs.Demand3.{started-drawn, drawn-answer, call-drawn}
 use Rattle.book.proofs.Rewrites.{rewrites-only}
-use Rattle.shares.specs.Shares.{Terms}
-use Rattle.shares.specs.Calls.{EditFor, plain, CalledFor}
-use Rattle.shares.specs.History.{AnyEdit, own, inName, anyAnswer, plainly, anyStep, afterAny, anyAnswers, AnyCalled, ownCalled, nameCalled, AnyCalls, noneCalled, nextCalled, AnyDemand3, AnyRewritesOnly}
-use Rattle.shares.proofs.Going.{answerFor, drawn-for}
+use Rattle.shares.specs.History.{AnyEdit, anyAnswer, plainOf, anyStep, afterAny, anyAnswers, AnyCalled, calledPlain, calledFor, AnyCalls, noneCalled, nextCalled, AnyDemand3, AnyRewritesOnly}
+use Rattle.shares.proofs.Going.{drawn-for}
+use Rattle.shares.proofs.Alike.{any-done, any-refused}
 
-any-done : (b : Book) (x : AnyEdit) → anyAnswer b x ≡ 0 → anyStep b x ≡ step b (plainly x)
+step-made : (b : Book) (x : AnyEdit) → anyAnswer b x ≡ 0 → anyStep b x ≡ step b (plainOf x)
 unfolding anyStep
-any-done b x h = rw (h, anyStep)
+step-made b x h = rw (h, anyStep)
 
-any-refused : (b : Book) (x : AnyEdit) → (anyAnswer b x ≡ 0 → ⊥) → anyStep b x ≡ b
+step-stays : (b : Book) (x : AnyEdit) → (anyAnswer b x ≡ 0 → ⊥) → anyStep b x ≡ b
 unfolding anyStep
-any-refused b x h = go (anyAnswer b x) refl
+step-stays b x h = go (anyAnswer b x) refl
   where
     go : (r : ℕ) → anyAnswer b x ≡ r → anyStep b x ≡ b
     go zero q = absurd (h q)
     go (suc r) q = rw (q, anyStep)
 
--- one call
+-- one call: the book's answer, and the drawing of the book's next state
 module _ (b : Book) (T T′ : Tables) (r : ℕ) (s : Sound b) (w : Drawn b T) where
-  abbrev Follows : AnyEdit → Type 0
-  Follows x = (r ≡ anyAnswer b x) × Sound (anyStep b x) × Drawn (anyStep b x) T′
-
-  own-drawn : (e : Edit) → (r ≡ answer b e) × Sound (step b e) × Drawn (step b e) T′ → Follows (own e)
+  any-answered : (x : AnyEdit) → AnyCalled x T r T′ → r ≡ anyAnswer b x
   unfolding anyAnswer
-  own-drawn e x = go (ℕ-discrete (answer b e) 0)
-    where
-      go : Dec (answer b e ≡ 0) → Follows (own e)
-      go (yes z) = (x .0, rw (any-done b (own e) z) (x .1), rw (any-done b (own e) z) (x .2))
-      go (no z) = (x .0, rw (any-refused b (own e) z) s, rw (any-refused b (own e) z) (rw (step-refused b e z) at (x .2)))
+  any-answered x (calledPlain {e = e} c) = c .answer ∙ drawn-answer b T s w e
+  any-answered x (calledFor {d = d} {t = t} {hs = hs} c) = c .answer ∙ drawn-for b T t hs d s w
 
-  name-drawn : (d : EditFor) (t : Terms) (hs hs′ : List ℕ) → CalledFor d t T hs r T′ hs′ → Follows (inName d t hs)
-  unfolding anyAnswer
-  name-drawn d t hs hs′ c = go (ℕ-discrete r 0)
+  any-drawn : (x : AnyEdit) → AnyCalled x T r T′ → (r ≡ anyAnswer b x) × Sound (anyStep b x) × Drawn (anyStep b x) T′
+  any-drawn x c = go (ℕ-discrete r 0)
     where
-      same : r ≡ answerFor b t hs d
-      same = c .answer ∙ drawn-for b T t hs d s w
+      same : r ≡ anyAnswer b x
+      same = any-answered x c
 
-      go : Dec (r ≡ 0) → Follows (inName d t hs)
+      go : Dec (r ≡ 0) → (r ≡ anyAnswer b x) × Sound (anyStep b x) × Drawn (anyStep b x) T′
       go (yes z) =
-          let e = any-done b (inName d t hs) (sym same ∙ z) in
-          let x = call-drawn b (plain d) T T′ 0 s w (c .done z .0) in
-          (same, rw e (x .1), rw e (x .2))
-      go (no z) = let e = any-refused b (inName d t hs) (λ q. z (same ∙ q)) in (same, rw e s, rw (e, c .refused z .0) w)
-
-  any-drawn : (x : AnyEdit) → AnyCalled x T r T′ → Follows x
-  any-drawn x (ownCalled {e = e} c) = own-drawn e (call-drawn b e T T′ r s w c)
-  any-drawn x (nameCalled {d = d} {t = t} {hs = hs} {hs′ = hs′} c) = name-drawn d t hs hs′ c
+          let e = step-made b x (sym same ∙ z) in
+          let a = call-drawn b (plainOf x) T T′ 0 s w (any-done (subst (λ (n : ℕ). AnyCalled x T n T′) z c)) in
+          (same, rw e (a .1), rw e (a .2))
+      go (no z) = let e = step-stays b x (λ q. z (same ∙ q)) in (same, rw e s, rw (e, any-refused c z) w)
 
 any-calls-drawn : (b : Book) (T T′ : Tables) (xs : List AnyEdit) (rs : List ℕ) → Sound b → Drawn b T → AnyCalls xs T rs T′
     → (rs ≡ anyAnswers b xs) × Drawn (afterAny b xs) T′
@@ -72,9 +60,8 @@ pub any-demand3 : AnyDemand3
 any-demand3 T₀ T T′ xs rs st cs = any-calls-drawn emptyBook T T′ xs rs empty-sound (rw (st .done refl) started-drawn) cs
 
 pub any-rewrites-only : AnyRewritesOnly
-any-rewrites-only x T T′ r (ownCalled {e = e} c) i j h l n = rewrites-only e T T′ r c i j h l n
-any-rewrites-only x T T′ r (nameCalled {d = d} c) i j h l n = go (ℕ-discrete r 0)
+any-rewrites-only x T T′ r c i j h l n = go (ℕ-discrete r 0)
   where
-    go : Dec (r ≡ 0) → MayRewrite (target (plain d)) T T′ i j
-    go (yes z) = rewrites-only (plain d) T T′ 0 (c .done z .0) i j h l n
-    go (no z) = absurd (n (ap (λ (S : Tables). word (S .pairs) (pairIndex i j)) (c .refused z .0)))
+    go : Dec (r ≡ 0) → MayRewrite (target (plainOf x)) T T′ i j
+    go (yes z) = rewrites-only (plainOf x) T T′ 0 (any-done (subst (λ (k : ℕ). AnyCalled x T k T′) z c)) i j h l n
+    go (no z) = absurd (n (ap (λ (S : Tables). word (S .pairs) (pairIndex i j)) (any-refused c z)))

@@ -22,7 +22,8 @@ use Rattle.book.proofs.Demand3.{drawn-lengths, drawn-records, drawn-book, call-
 use Rattle.book.proofs.Checks.{checked-drawn, checked-sound}
 use Rattle.shares.specs.Shares.{Terms, sumBelow, held, freeNumbers, unfilledOf, unfilled, listsRight, termsRight, sharesRight}
 use Rattle.shares.specs.Calls.{EditFor, addRunFor, removeRunFor, moveRunFor, plain, ownRun, questionsFor, answerOverFor, holdersAfter, CalledFor}
-use Rattle.shares.specs.Promise.{Turn, OffRuns, CallsFor, noTurns, callFor, between, Opened}
+use Rattle.shares.specs.History.{AnyEdit, named, anyAnswer}
+use Rattle.shares.specs.Promise.{OffRuns, CallsFor, noCallsFor, callFor, between, Opened}
 use Rattle.shares.proofs.Sums.{sum-same, count-all, count-none}
 use Rattle.shares.proofs.Keeping.{terms-kept, Kept, kept-of, kept-yes, add-kept, remove-kept, move-kept}
 
@@ -46,10 +47,6 @@ names c m h = let a = both (ltb c 4) (ltb m 24) h in (ltb-true c 4 (a .0), ltb-t
 pub own-run : (runs : List (List Point)) (hs : List ℕ) (c m : ℕ) → ownRun runs hs c m ≡ true → (free runs m ≡ false) × (word hs m ≡ c)
 own-run runs hs c m h = let a = both (not (free runs m)) (eqb (word hs m) c) h in (not-true (free runs m) (a .0), eqb-true _ c (a .1))
 
--- the number that the book gives
-abbrev pub answerFor : Book → Terms → List ℕ → EditFor → ℕ
-answerFor b t hs d = firstNo (ask 1 (listsRight t hs) ∷ questionsFor (b .runs) t hs d)
-
 -- 1, 18 and 3, which every call begins with
 begun : (runs : List (List Point)) (t : Terms) (hs : List ℕ) (c m : ℕ) (qs : List Question)
     → firstNo (ask 1 (listsRight t hs) ∷ ask 18 (sharesRight runs t hs) ∷ ask 3 (ltb c 4 && ltb m 24) ∷ qs) ≡ 0
@@ -62,9 +59,9 @@ begun runs t hs c m qs h =
     (lists-sized t hs (q₁ .0), kept-of runs t hs (q₁₈ .0), n .0, n .1, q₃ .1)
 
 -- an accepted call keeps question 18
-call-right : (b : Book) (t : Terms) (hs : List ℕ) (d : EditFor) → Sound b → answerFor b t hs d ≡ 0 → answer b (plain d) ≡ 0
+call-right : (b : Book) (t : Terms) (hs : List ℕ) (d : EditFor) → Sound b → anyAnswer b (named d t hs) ≡ 0 → answer b (plain d) ≡ 0
     → sharesRight (step b (plain d) .runs) t (holdersAfter d hs) ≡ true
-unfolding questionsFor written
+unfolding anyAnswer questionsFor written
 call-right b t hs (addRunFor c m p q) s h a =
     let k = begun (b .runs) t hs c m _ h in
     let q₄ = first-yes 3 _ _ (k .4) in
@@ -97,8 +94,8 @@ step-off b e h = go (ℕ-discrete (answer b e) 0)
     go (no z) = rw (step-refused b e z)
 
 -- over the drawing of a book, a call answers as the book does
-pub drawn-for : (b : Book) (T : Tables) (t : Terms) (hs : List ℕ) (d : EditFor) → Sound b → Drawn b T → answerOverFor T t hs d ≡ answerFor b t hs d
-unfolding answerOverFor firstNo
+pub drawn-for : (b : Book) (T : Tables) (t : Terms) (hs : List ℕ) (d : EditFor) → Sound b → Drawn b T → answerOverFor T t hs d ≡ anyAnswer b (named d t hs)
+unfolding answerOverFor anyAnswer firstNo
 drawn-for b T t hs d s w = rw (drawn-lengths b T s w, drawn-records b T s w, drawn-book b T s w)
 
 pub record Going (t : Terms) (T : Tables) (hs : List ℕ) : Type 0 where
@@ -130,8 +127,8 @@ going-between e t T T′ hs r o g c =
     let a = call-drawn (g .book) e T T′ r (g .sound) (g .drawn) c in
     record { book = step (g .book) e; sound = a .1; drawn = a .2; lists = g .lists; right = rw (step-off (g .book) e o) (g .right) }
 
-pub going-all : {t : Terms} {T T′ : Tables} {hs hs′ : List ℕ} {xs : List Turn} {rs : List ℕ} → Going t T hs → CallsFor t xs T hs rs T′ hs′ → Going t T′ hs′
-going-all g noTurns = g
+pub going-all : {t : Terms} {T T′ : Tables} {hs hs′ : List ℕ} {xs : List AnyEdit} {rs : List ℕ} → Going t T hs → CallsFor t xs T hs rs T′ hs′ → Going t T′ hs′
+going-all g noCallsFor = g
 going-all {t = t} {T = T} {hs = hs} g (callFor {d = d} {T₁ = T₁} {hs₁ = hs₁} {r = r} c cs) = going-all (going-call d t T T₁ hs hs₁ r g c) cs
 going-all {t = t} {T = T} {hs = hs} g (between {e = e} {T₁ = T₁} {r = r} o c cs) = going-all (going-between e t T T₁ hs r o g c) cs
 

@@ -16,11 +16,12 @@ use Rattle.book.proofs.Stored.{run-free}
 use Rattle.book.proofs.Demand3.{drawn-book}
 use Rattle.shares.specs.Shares.{Terms, held, freeNumbers, unfilledOf, unfilled, unfilledOthers, sharesRight}
 use Rattle.shares.specs.Calls.{addRunFor, questionsFor}
-use Rattle.shares.specs.Promise.{Turn, CallsFor, Opened, FreeNumber, Promise, KeepsPromise}
+use Rattle.shares.specs.History.{AnyEdit, named, anyAnswer}
+use Rattle.shares.specs.Promise.{CallsFor, Opened, FreeNumber, Promise, KeepsPromise}
 use Rattle.shares.proofs.Sums.{some-below, sum-part}
 use Rattle.shares.proofs.Counts.{unfilled-split}
 use Rattle.shares.proofs.Keeping.{terms-kept, Kept, kept-of}
-use Rattle.shares.proofs.Going.{Going, answerFor, drawn-for, going-all, opened-going}
+use Rattle.shares.proofs.Going.{Going, drawn-for, going-all, opened-going}
 
 module _ (t : Terms) (T : Tables) (hs : List ℕ) (g : Going t T hs) where
   -- question 18 as the tables say it
@@ -44,8 +45,8 @@ module _ (t : Terms) (T : Tables) (hs : List ℕ) (g : Going t T hs) where
         let s = some-below (λ m. free (g .book .runs) m) 24 some-free in
         record { number = s .number; below = s .below; absent = eqb-true _ 0 (sym (free-word (s .number) (s .below)) ∙ s .meets) }
 
-    grants : (m : ℕ) (p q : Point) → m < 24 → word (T .runs) (5 * m) ≡ 0 → placeRight p && placeRight q ≡ true → answerFor (g .book) t hs (addRunFor c m p q) ≡ 0
-    unfolding questionsFor firstNo
+    grants : (m : ℕ) (p q : Point) → m < 24 → word (T .runs) (5 * m) ≡ 0 → placeRight p && placeRight q ≡ true → anyAnswer (g .book) (named (addRunFor c m p q) t hs) ≡ 0
+    unfolding anyAnswer questionsFor firstNo
     grants m p q lm z r =
         let spare : unfilledOthers hs (t .shares) c + 1 ≤ freeNumbers (g .book .runs) = omega (arith, kept .enough, unfilled-split hs (t .shares) c lc) in
         let below : held hs c < word (t .ceilings) c = omega (arith, terms-kept t (kept .terms) .0 c lc) in
@@ -60,7 +61,7 @@ module _ (t : Terms) (T : Tables) (hs : List ℕ) (g : Going t T hs) where
       }
 
 -- question 18 is answered yes after every list of calls
-pub always-right : (t : Terms) (T T′ : Tables) (hs hs′ : List ℕ) (xs : List Turn) (rs : List ℕ)
+pub always-right : (t : Terms) (T T′ : Tables) (hs hs′ : List ℕ) (xs : List AnyEdit) (rs : List ℕ)
     → Opened t T hs → CallsFor t xs T hs rs T′ hs′ → sharesRight (bookOf (records T′) .runs) t hs′ ≡ true
 always-right t T T′ hs hs′ xs rs o cs = still-right t T′ hs′ (going-all (opened-going t T hs o) cs)
 

@@ -1,4 +1,4 @@
 pub mod Shares
 pub mod Calls
-pub mod Promise
 pub mod History
+pub mod Promise

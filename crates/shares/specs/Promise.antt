@@ -1,8 +1,8 @@
--- What every contractor may count on, after any list of calls. Rule 51.
+-- What every contractor may count on, after any list of calls. Rule 52.
 use mathlib.Core.Path.{_≡_}
 use mathlib.Core.List.{List, [], _∷_}
 use mathlib.Core.Bool.{true, _&&_}
-use Prim.Native.Nat.{ℕ, zero, suc, _*_, _<_}
+use Prim.Native.Nat.{ℕ, _*_, _<_}
 use lib.ListN.{replicate}
 use Rattle.geometry.specs.Words.{Point, word}
 use Rattle.tables.specs.Tables.{Tables}
@@ -10,23 +10,19 @@ use Rattle.records.specs.Questions.{placeRight}
 use Rattle.book.specs.Book.{Edit, theRun, target}
 use Rattle.book.specs.Edits.{Called, Checked}
 use Rattle.shares.specs.Shares.{Terms, listsRight, termsRight, held}
-use Rattle.shares.specs.Calls.{EditFor, addRunFor, plain, CalledFor}
-
--- what comes in a list of calls: an edit in a contractor's name, or one in nobody's
-pub data Turn : Type 0 where
-  named : EditFor → Turn
-  unnamed : Edit → Turn
+use Rattle.shares.specs.Calls.{EditFor, addRunFor, CalledFor}
+use Rattle.shares.specs.History.{AnyEdit, unnamed, named}
 
 -- the edit is one of a block or of the figure
 abbrev pub OffRuns : Edit → Type 0
 OffRuns e = (m : ℕ) → target e ≡ theRun m → ⊥
 
 -- calls with the same terms, each handed tables and holders as the one before left them; between them blocks and the figure may be edited too
-pub data CallsFor (t : Terms) : List Turn → Tables → List ℕ → List ℕ → Tables → List ℕ → Type 0 where
-  noTurns : {T : Tables} {hs : List ℕ} → CallsFor t [] T hs [] T hs
-  callFor : {d : EditFor} {xs : List Turn} {T T₁ T₂ : Tables} {hs hs₁ hs₂ : List ℕ} {r : ℕ} {rs : List ℕ}
-      → CalledFor d t T hs r T₁ hs₁ → CallsFor t xs T₁ hs₁ rs T₂ hs₂ → CallsFor t (named d ∷ xs) T hs (r ∷ rs) T₂ hs₂
-  between : {e : Edit} {xs : List Turn} {T T₁ T₂ : Tables} {hs hs₂ : List ℕ} {r : ℕ} {rs : List ℕ}
+pub data CallsFor (t : Terms) : List AnyEdit → Tables → List ℕ → List ℕ → Tables → List ℕ → Type 0 where
+  noCallsFor : {T : Tables} {hs : List ℕ} → CallsFor t [] T hs [] T hs
+  callFor : {d : EditFor} {xs : List AnyEdit} {T T₁ T₂ : Tables} {hs hs₁ hs₂ : List ℕ} {r : ℕ} {rs : List ℕ}
+      → CalledFor d t T hs r T₁ hs₁ → CallsFor t xs T₁ hs₁ rs T₂ hs₂ → CallsFor t (named d t hs ∷ xs) T hs (r ∷ rs) T₂ hs₂
+  between : {e : Edit} {xs : List AnyEdit} {T T₁ T₂ : Tables} {hs hs₂ : List ℕ} {r : ℕ} {rs : List ℕ}
       → OffRuns e → Called e T r T₁ → CallsFor t xs T₁ hs rs T₂ hs₂ → CallsFor t (unnamed e ∷ xs) T hs (r ∷ rs) T₂ hs₂
 
 -- where the promise starts: a yard without runs that the check answers 0, all holders 255, shares and ceilings within the rules
@@ -49,18 +45,8 @@ pub record Promise (t : Terms) (T : Tables) (hs : List ℕ) : Type 0 where
   pub accepts : (c m : ℕ) (p q : Point) → c < 4 → held hs c < word (t .shares) c → m < 24 → word (T .runs) (5 * m) ≡ 0 → placeRight p && placeRight q ≡ true
       → (r : ℕ) (T′ : Tables) (hs′ : List ℕ) → CalledFor (addRunFor c m p q) t T hs r T′ hs′ → r ≡ 0
 
+-- the promise is kept after any such list of calls
 abbrev pub KeepsPromise : Type 0
 KeepsPromise =
-    (t : Terms) (T T′ : Tables) (hs hs′ : List ℕ) (xs : List Turn) (rs : List ℕ)
+    (t : Terms) (T T′ : Tables) (hs hs′ : List ℕ) (xs : List AnyEdit) (rs : List ℕ)
     → Opened t T hs → CallsFor t xs T hs rs T′ hs′ → Promise t T′ hs′
-
--- the yard's own edits that were made: those of the calls that were answered 0, in nobody's name
-abbrev pub editIn : Turn → Edit
-editIn (named d) = plain d
-editIn (unnamed e) = e
-
-unfoldable pub made : List Turn → List ℕ → List Edit
-made [] rs = []
-made (x ∷ xs) [] = []
-made (x ∷ xs) (zero ∷ rs) = editIn x ∷ made xs rs
-made (x ∷ xs) (suc r ∷ rs) = made xs rs
