@@ -1,17 +1,18 @@
 -- The number that each way through the questions ends in.
 use mathlib.Core.Path.{_≡_, sym, _∙_}
-use mathlib.Core.List.{List, [], _∷_}
+use mathlib.Core.List.{List}
 use mathlib.Core.Bool.{Bool, true, false, not}
-use Prim.Native.Nat.{ℕ, _+_, _*_, _<_, _≤_}
+use Prim.Native.Nat.{ℕ, _*_, _<_}
 use native.Mathlib.Omega.{arith}
 use lib.Dec.{ltb, eqb}
 use lib.ListN.{length}
-use borrow.Author.Tests.{lt-ltb, le-ltb, le-leb, lt-leb, eq-eqb, ne-eqb, not-true, not-false}
+use borrow.Author.Tests.{lt-ltb, eq-eqb, ne-eqb, not-true, not-false}
 use Rattle.geometry.specs.Words.{word}
-use Rattle.book.specs.Questions.{ask, firstNo}
+use Rattle.book.specs.Questions.{firstNo}
 use Rattle.book.specs.Book.{free}
 use Rattle.book.proofs.Questions.{first-yes, first-more}
 use Rattle.shares.specs.Shares.{Terms, held, freeNumbers, unfilledOthers, sharesRight}
+use Rattle.shares.specs.Calls.{namesRight}
 use Rattle.shares.proofs.Going.{names}
 use Rattle.share_answers.specs.inner.Asked.{runPlaces, namedAsked, addAsked, ownAsked}
 use Rattle.share_answers.proofs.Loops.{free-at}
@@ -19,22 +20,18 @@ use Rattle.share_answers.proofs.Loops.{free-at}
 module _ (r hs : List ℕ) (t : Terms) (c m : ℕ) where
   -- 18 and 3
   module _ (b : Bool) (e : b ≡ sharesRight (runPlaces r) t hs) where
-    pub asked-18 : not b ≡ true → 18 ≡ firstNo (namedAsked (runPlaces r) t hs c m)
+    pub named-18 : not b ≡ true → 18 ≡ firstNo (namedAsked (runPlaces r) t hs c m)
     unfolding namedAsked firstNo
-    asked-18 n = rw (sym e ∙ not-true b n)
+    named-18 n = rw (sym e ∙ not-true b n)
 
-    module _ (y : not b ≡ false) where
-      pub no-contractor : 4 ≤ c → 3 ≡ firstNo (namedAsked (runPlaces r) t hs c m)
+    module _ (y : not b ≡ false) (d : Bool) (f : d ≡ namesRight c m) where
+      pub named-3 : not d ≡ true → 3 ≡ firstNo (namedAsked (runPlaces r) t hs c m)
       unfolding namedAsked firstNo
-      no-contractor l = rw (sym e ∙ not-false b y, le-ltb c 4 l)
+      named-3 n = rw (sym e ∙ not-false b y, sym f ∙ not-true d n)
 
-      pub no-number : c < 4 → 24 ≤ m → 3 ≡ firstNo (namedAsked (runPlaces r) t hs c m)
+      pub named-0 : not d ≡ false → 0 ≡ firstNo (namedAsked (runPlaces r) t hs c m)
       unfolding namedAsked firstNo
-      no-number k l = rw (sym e ∙ not-false b y, lt-ltb c 4 k, le-ltb m 24 l)
-
-      pub both-named : c < 4 → m < 24 → 0 ≡ firstNo (namedAsked (runPlaces r) t hs c m)
-      unfolding namedAsked firstNo
-      both-named k l = rw (sym e ∙ not-false b y, lt-ltb c 4 k, lt-ltb m 24 l)
+      named-0 n = rw (sym e ∙ not-false b y, sym f ∙ not-false d n)
 
   module _ (v : ℕ) (f : v ≡ firstNo (namedAsked (runPlaces r) t hs c m)) where
     pub add-unnamed : (v ≡ 0 → ⊥) → v ≡ firstNo (addAsked (runPlaces r) t hs c m)
@@ -74,38 +71,19 @@ module _ (r hs : List ℕ) (t : Terms) (c m : ℕ) where
       unfolding addAsked firstNo
       add-4 n = rw (right, c-right, m-right, free-now, ne-eqb _ 0 n)
 
-      module _ (e : word r (5 * m) ≡ 0) (w h : ℕ) (ew : w ≡ word (t .ceilings) c) (eh : h ≡ held hs c) where
-        pub add-19 : w ≤ h → 19 ≡ firstNo (addAsked (runPlaces r) t hs c m)
+      module _ (e : word r (5 * m) ≡ 0) (b : Bool) (eb : b ≡ ltb (held hs c) (word (t .ceilings) c)) where
+        pub add-19 : not b ≡ true → 19 ≡ firstNo (addAsked (runPlaces r) t hs c m)
         unfolding addAsked firstNo
-        add-19 l =
-            rw (right, c-right, m-right, free-now, eq-eqb _ 0 e, le-ltb (held hs c) (word (t .ceilings) c) (omega arith))
+        add-19 n = rw (right, c-right, m-right, free-now, eq-eqb _ 0 e, sym eb ∙ not-true b n)
 
-        module _ (lt : h < w) (g u : ℕ) (eg : g ≡ freeNumbers (runPlaces r)) (eu : u ≡ unfilledOthers hs (t .shares) c) where
-          pub add-20 : g ≤ u → 20 ≡ firstNo (addAsked (runPlaces r) t hs c m)
+        module _ (y : not b ≡ false) (d : Bool) (ed : d ≡ ltb (unfilledOthers hs (t .shares) c) (freeNumbers (runPlaces r))) where
+          pub add-20 : not d ≡ true → 20 ≡ firstNo (addAsked (runPlaces r) t hs c m)
           unfolding addAsked firstNo
-          add-20 l =
-              rw (
-                right,
-                c-right,
-                m-right,
-                free-now,
-                eq-eqb _ 0 e,
-                lt-ltb (held hs c) (word (t .ceilings) c) (omega arith),
-                lt-leb (unfilledOthers hs (t .shares) c + 1) (freeNumbers (runPlaces r)) (omega arith),
-              )
+          add-20 n = rw (right, c-right, m-right, free-now, eq-eqb _ 0 e, sym eb ∙ not-false b y, sym ed ∙ not-true d n)
 
-          pub add-0 : u < g → 0 ≡ firstNo (addAsked (runPlaces r) t hs c m)
+          pub add-0 : not d ≡ false → 0 ≡ firstNo (addAsked (runPlaces r) t hs c m)
           unfolding addAsked firstNo
-          add-0 l =
-              rw (
-                right,
-                c-right,
-                m-right,
-                free-now,
-                eq-eqb _ 0 e,
-                lt-ltb (held hs c) (word (t .ceilings) c) (omega arith),
-                le-leb (unfilledOthers hs (t .shares) c + 1) (freeNumbers (runPlaces r)) (omega arith),
-              )
+          add-0 n = rw (right, c-right, m-right, free-now, eq-eqb _ 0 e, sym eb ∙ not-false b y, sym ed ∙ not-false d n)
 
       -- 5
       pub own-absent : word r (5 * m) ≡ 0 → 5 ≡ firstNo (ownAsked (runPlaces r) t hs c m)

@@ -6,13 +6,14 @@ use Prim.Native.Nat.{ℕ, _+_, _*_, _-_, _<_, _≤_}
 use native.Mathlib.Numerals.{add-one}
 use native.Mathlib.Omega.{arith}
 use lib.Dec.{ltb, leb, eqb}
-use borrow.Author.Tests.{not-true, not-false}
+use borrow.Author.Tests.{not-true, not-false, lt-ltb, le-ltb}
 use Rattle.geometry.specs.Words.{word}
 use Rattle.lists.specs.Lists.{allBelow}
 use Rattle.tables.specs.Tables.{stored}
 use Rattle.book.specs.Book.{free}
 use Rattle.book.proofs.Stored.{run-free}
 use Rattle.shares.specs.Shares.{sumBelow, one, terms, held, freeNumbers, unfilledOf, unfilled, unfilledOthers, holderRight, termsRight, holdersRight, holdingsRight, sharesRight}
+use Rattle.shares.specs.Calls.{namesRight}
 use Rattle.shares.proofs.Counts.{unfilled-split}
 use Rattle.share_answers.specs.inner.Asked.{runPlaces}
 
@@ -76,8 +77,19 @@ holder-absent a h e = rw e
 pub holder-present : (a : Bool) (h : ℕ) → a ≡ false → ltb h 4 ≡ holderRight a h
 holder-present a h e = rw e
 
+-- the numbers that are compared are those of the definitions
+pub ltb-of : (h w a b : ℕ) → h ≡ a → w ≡ b → ltb h w ≡ ltb a b
+ltb-of h w a b e f = rw (e, f)
+
 pub leb-of : (h w a b : ℕ) → h ≡ a → w ≡ b → leb h w ≡ leb a b
 leb-of h w a b e f = rw (e, f)
+
+-- question 3
+pub names-low : (c m : ℕ) → c < 4 → ltb m 24 ≡ namesRight c m
+names-low c m l = rw (lt-ltb c 4 l)
+
+pub names-high : (c m : ℕ) → 4 ≤ c → false ≡ namesRight c m
+names-high c m l = rw (le-ltb c 4 l)
 
 -- question 18, part after part
 module _ (s c : List ℕ) (t : Bool) (e : t ≡ allBelow 4 (λ k. leb (word s k) (word c k))) where

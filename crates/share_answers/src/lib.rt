@@ -1,12 +1,13 @@
 // Questions 18, 3, 4, 19 and 20, and 5, of a run that is edited in a contractor's name: over the run table, the holders, the shares and the ceilings.
 ghost use mathlib.Core.Path.{_≡_};
-ghost use Prim.Native.Nat.{_-_, _<_, _≤_};
-ghost use lib.Dec.{leb};
+ghost use Prim.Native.Nat.{_+_, _-_, _<_, _≤_};
+ghost use lib.Dec.{ltb, leb};
 ghost use lib.ListN.{length};
 ghost use Rattle.lists.specs.Lists.{allBelow};
 ghost use Rattle.geometry.specs.Words.{word};
 ghost use Rattle.book.specs.Questions.{firstNo};
 ghost use Rattle.shares.specs.Shares.{sumBelow, one, terms, held, freeNumbers, unfilled, unfilledOthers, termsRight, holderRight, holdersRight, holdingsRight, sharesRight};
+ghost use Rattle.shares.specs.Calls.{namesRight};
 ghost use Rattle.share_answers.specs.inner.Asked.{runPlaces, namedAsked, addAsked, ownAsked};
 
 fn wide(v: u8) -> u32
@@ -191,6 +192,32 @@ fn shares_right(runs: &[u16], holders: &[u8], shares: &[u8], ceilings: &[u8]) ->
     unfilled(holders, shares) <= free_numbers(runs)
 }
 
+// Question 3.
+fn names_right(contractor: u32, number: u32) -> bool
+    ensures { λ r. ⌜ r ≡ namesRight contractor number ⌝ }
+{
+    if contractor < 4 {
+        return number < 24;
+    }
+    false
+}
+
+// Question 19.
+fn below_ceiling(holders: &[u8], ceiling: u8, contractor: u32) -> bool
+    requires { ⌜ length (now holders) ≡ 24 ⌝ }
+    ensures { λ r. ⌜ r ≡ ltb (held (now (holders .entry)) contractor) ceiling ⌝ }
+{
+    held(holders, contractor) < wide(ceiling)
+}
+
+// Question 20.
+fn spares_others(runs: &[u16], holders: &[u8], shares: &[u8], contractor: u32) -> bool
+    requires { ⌜ (length (now runs) ≡ 121) × (length (now holders) ≡ 24) × (length (now shares) ≡ 4) × (contractor < 4) ⌝ }
+    ensures { λ r. ⌜ r ≡ ltb (unfilledOthers (now (holders .entry)) (now (shares .entry)) contractor) (freeNumbers (runPlaces (now (runs .entry)))) ⌝ }
+{
+    unfilled_others(holders, shares, contractor) < free_numbers(runs)
+}
+
 // Questions 18 and 3.
 fn named_answer(
     runs: &[u16],
@@ -203,13 +230,12 @@ fn named_answer(
     requires { ⌜ (length (now runs) ≡ 121) × (length (now holders) ≡ 24) × (length (now shares) ≡ 4) × (length (now ceilings) ≡ 4) ⌝ }
     ensures { λ r. ⌜ r ≡ firstNo (namedAsked (runPlaces (now (runs .entry))) (terms (now (shares .entry)) (now (ceilings .entry))) (now (holders .entry)) contractor number) ⌝ }
 {
-    if !shares_right(runs, holders, shares, ceilings) {
+    let right = shares_right(runs, holders, shares, ceilings);
+    let named = names_right(contractor, number);
+    if !right {
         return 18;
     }
-    if 4 <= contractor {
-        return 3;
-    }
-    if 24 <= number {
+    if !named {
         return 3;
     }
     0
@@ -234,10 +260,12 @@ pub fn add_answer(
     if runs[5 * (number as usize)] != 0 {
         return 4;
     }
-    if wide(ceilings[contractor as usize]) <= held(holders, contractor) {
+    let below = below_ceiling(holders, ceilings[contractor as usize], contractor);
+    let spared = spares_others(runs, holders, shares, contractor);
+    if !below {
         return 19;
     }
-    if free_numbers(runs) <= unfilled_others(holders, shares, contractor) {
+    if !spared {
         return 20;
     }
     0

@@ -7,7 +7,7 @@ use native.Mathlib.Decide.{ℕ-discrete}
 use native.Mathlib.Omega.{arith}
 use lib.Dec.{ltb, eqb}
 use lib.ListN.{length, set, length-set, getD-replicate}
-use borrow.Author.Tests.{ltb-true, leb-true, eqb-true, eq-eqb, ne-eqb, not-true}
+use borrow.Author.Tests.{ltb-true, eqb-true, eq-eqb, ne-eqb, not-true}
 use Rattle.lists.proofs.Every.{both}
 use Rattle.geometry.specs.Words.{Point, word}
 use Rattle.tables.specs.Tables.{Tables, records}
@@ -68,7 +68,7 @@ call-right b t hs (addRunFor c m p q) s h a =
     let q₁₉ = first-yes 18 _ _ (q₄ .1) in
     let q₂₀ = first-yes 19 _ _ (q₁₉ .1) in
     rw (step-done b (plain (addRunFor c m p q)) a)
-    (kept-yes _ t _ (add-kept (b .runs) t hs c m (k .1) (s .runCount) (k .0) (k .2) (k .3) p q (q₄ .0) (ltb-true _ _ (q₁₉ .0)) (leb-true _ _ (q₂₀ .0))))
+    (kept-yes _ t _ (add-kept (b .runs) t hs c m (k .1) (s .runCount) (k .0) (k .2) (k .3) p q (q₄ .0) (ltb-true _ _ (q₁₉ .0)) (ltb-true _ _ (q₂₀ .0))))
 call-right b t hs (removeRunFor c m) s h a =
     let k = begun (b .runs) t hs c m _ h in
     let o = own-run (b .runs) hs c m (first-yes 4 _ _ (k .4) .0) in

@@ -66,7 +66,7 @@ module _ (runs : List (List Point)) (t : Terms) (hs : List ℕ) where
         go (yes e) = rw (e, getD-set-same hs m v 0 (omega arith)) h
         go (no e) = rw (getD-set-other hs m i v 0 e, free-other runs m ps i e) (k .holders i l)
 
-    module _ (p q : Point) (f : free runs m ≡ true) (low : held hs c < word (t .ceilings) c) (spare : unfilledOthers hs (t .shares) c + 1 ≤ freeNumbers runs) where
+    module _ (p q : Point) (f : free runs m ≡ true) (low : held hs c < word (t .ceilings) c) (spare : unfilledOthers hs (t .shares) c < freeNumbers runs) where
       unheld : word hs m ≡ 255
       unheld = eqb-true _ 255 (rw f at (k .holders m lm))
 

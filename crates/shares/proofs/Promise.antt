@@ -2,10 +2,10 @@
 use mathlib.Core.Path.{_≡_, sym, _∙_}
 use mathlib.Core.List.{List}
 use mathlib.Core.Bool.{true, _&&_}
-use Prim.Native.Nat.{ℕ, _+_, _*_, _<_, _≤_}
+use Prim.Native.Nat.{ℕ, _*_, _<_}
 use native.Mathlib.Omega.{arith}
 use lib.Dec.{eqb}
-use borrow.Author.Tests.{lt-ltb, le-leb, eqb-true, eq-eqb}
+use borrow.Author.Tests.{lt-ltb, eqb-true, eq-eqb}
 use Rattle.geometry.specs.Words.{Point, word}
 use Rattle.tables.specs.Tables.{Tables, records}
 use Rattle.records.specs.Questions.{placeRight}
@@ -48,9 +48,9 @@ module _ (t : Terms) (T : Tables) (hs : List ℕ) (g : Going t T hs) where
     grants : (m : ℕ) (p q : Point) → m < 24 → word (T .runs) (5 * m) ≡ 0 → placeRight p && placeRight q ≡ true → anyAnswer (g .book) (named (addRunFor c m p q) t hs) ≡ 0
     unfolding anyAnswer questionsFor firstNo
     grants m p q lm z r =
-        let spare : unfilledOthers hs (t .shares) c + 1 ≤ freeNumbers (g .book .runs) = omega (arith, kept .enough, unfilled-split hs (t .shares) c lc) in
+        let spare : unfilledOthers hs (t .shares) c < freeNumbers (g .book .runs) = omega (arith, kept .enough, unfilled-split hs (t .shares) c lc) in
         let below : held hs c < word (t .ceilings) c = omega (arith, terms-kept t (kept .terms) .0 c lc) in
-        rw (g .lists, g .right, lt-ltb c 4 lc, lt-ltb m 24 lm, free-word m lm ∙ eq-eqb _ 0 z, lt-ltb _ _ below, le-leb _ _ spare, r)
+        rw (g .lists, g .right, lt-ltb c 4 lc, lt-ltb m 24 lm, free-word m lm ∙ eq-eqb _ 0 z, lt-ltb _ _ below, lt-ltb _ _ spare, r)
 
   promise : Promise t T hs
   promise =

@@ -75,6 +75,6 @@ sharesRight runs t holders = termsRight t && holdersRight runs holders && holdin
 abbrev pub belowCeiling : Terms → List ℕ → ℕ → Bool
 belowCeiling t holders c = ltb (held holders c) (word (t .ceilings) c)
 
--- 20: with one free number fewer there are still enough for what is left of the others' shares
+-- 20: more numbers are free than are left of the others' shares, so that with one fewer there are still enough
 abbrev pub sparesOthers : List (List Point) → Terms → List ℕ → ℕ → Bool
-sparesOthers runs t holders c = leb (unfilledOthers holders (t .shares) c + 1) (freeNumbers runs)
+sparesOthers runs t holders c = ltb (unfilledOthers holders (t .shares) c) (freeNumbers runs)
