@@ -1,5 +1,6 @@
 //! The calls of the static library `yard_abi`: blocks, runs, pairs, routes, totals, each a pointer and a length, then the
-//! arguments; a quote is lent blocks and runs alone, and its own lists last.
+//! arguments; a quote is lent blocks and runs alone, and its own lists last; a call in a contractor's name is lent holders,
+//! shares and ceilings after the tables.
 
 #[link(name = "yard_abi", kind = "static")]
 extern "C" {

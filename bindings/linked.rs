@@ -89,6 +89,29 @@ impl Planner for Linked {
     }
 }
 
+/// A run added, removed or moved in a contractor's name: the number, and the tables and holders as the call leaves them.
+pub fn edit_for(t: &mut Tables, holders: &mut [u8], shares: &[u8], ceilings: &[u8], contractor: u32, e: &Edit) -> u32 {
+    let (mut h, mut s, mut c) = (Fenced::new(holders, 0x5A), Fenced::new(shares, 0x5A), Fenced::new(ceilings, 0x5A));
+    // The three lists are apart too, live for the call, and as long as stated.
+    macro_rules! call_for {
+        ($f:ident $(, $arg:expr)*) => { fenced_call!(t, $f, h.ptr(), h.len, s.ptr(), s.len, c.ptr(), c.len, contractor $(, $arg)*) };
+    }
+    let answer = match e {
+        Edit::AddRun(m, e) => call_for!(yard_add_run_for, *m, e[0], e[1], e[2], e[3]),
+        Edit::RemoveRun(m) => call_for!(yard_remove_run_for, *m),
+        Edit::MoveRun(m, e) => call_for!(yard_move_run_for, *m, e[0], e[1], e[2], e[3]),
+        other => panic!("{other:?} is in nobody's name"),
+    };
+    match e {
+        // moving only reads them
+        Edit::MoveRun(..) => h.kept(holders, "holders"),
+        _ => h.take(holders, "holders"),
+    }
+    s.kept(shares, "shares");
+    c.kept(ceilings, "ceilings");
+    answer
+}
+
 /// A call that draws: `yard_piece` or `yard_bend`.
 type Draw = unsafe extern "C" fn(
     *const u16, usize, *const u16, usize, *const u8, usize, *const u32, usize, *const u32, usize,

@@ -192,6 +192,33 @@ fn drawing(report: &mut Report) {
     }
 }
 
+/// Contractor 1 holds run 4.
+fn in_a_name(report: &mut Report) {
+    for missing in 1..256 {
+        report.case(&format!("lists {missing:08b} of a call in a contractor's name NULL"), |calls| {
+            let before = yard();
+            let (mut t, mut holders, mut shares, mut ceilings) = (before.clone(), [255u8; 24], [6u8; 4], [24u8; 4]);
+            holders[4] = 1;
+            let kept = holders;
+            for (contractor, m) in [(1, 4), (1, 0), (2, 4), (4, 4), (1, 24)] {
+                let h = lent(&mut holders, missing & 32 != 0);
+                let (s, c) = (lent(&mut shares, missing & 64 != 0), lent(&mut ceilings, missing & 128 != 0));
+                let answers = [
+                    with_tables!(t, missing, yard_add_run_for, h.0, h.1, s.0, s.1, c.0, c.1, contractor, m, 1, 2, 3, 4),
+                    with_tables!(t, missing, yard_remove_run_for, h.0, h.1, s.0, s.1, c.0, c.1, contractor, m),
+                    with_tables!(t, missing, yard_move_run_for, h.0, h.1, s.0, s.1, c.0, c.1, contractor, m, 1, 2, 3, 4),
+                ];
+                *calls += answers.len();
+                if answers != [1; 3] {
+                    return Err(format!("contractor {contractor}, run {m}: {answers:?}"));
+                }
+            }
+            same_tables("nothing is stored", &t, &before)?;
+            if (holders, shares, ceilings) == (kept, [6; 4], [24; 4]) { Ok(()) } else { Err(format!("holders {holders:?}")) }
+        });
+    }
+}
+
 pub fn empty_lists(report: &mut Report) {
     tables(report);
     corners(report);
@@ -200,4 +227,5 @@ pub fn empty_lists(report: &mut Report) {
     converting(report);
     quoting(report);
     drawing(report);
+    in_a_name(report);
 }

@@ -44,6 +44,12 @@ mod reference;
 #[cfg(not(plain))]
 mod replaying;
 mod seams;
+#[cfg(not(plain))]
+mod share_calls;
+#[cfg(not(plain))]
+mod share_rows;
+#[cfg(not(plain))]
+mod shares;
 #[path = "../../bindings/tables.rs"]
 mod tables;
 mod totals;
@@ -572,6 +578,8 @@ fn main() {
         report.end_group("quotes");
         pieces::pieces(&mut report);
         report.end_group("pieces");
+        shares::shares(&mut report);
+        report.end_group("shares");
     }
     fuzz::fuzz(&p, &mut report, seconds, seed);
     report.end_group("fuzzing");

@@ -195,7 +195,7 @@ fn end(r: &mut Random, s: &Style, book: &Book) -> Place {
     p
 }
 
-fn ends(r: &mut Random, s: &Style, book: &Book) -> [u16; 4] {
+pub fn ends(r: &mut Random, s: &Style, book: &Book) -> [u16; 4] {
     let first = end(r, s, book);
     let second = if r.percent(6) { first } else { end(r, s, book) };
     [first.0 as u16, first.1 as u16, second.0 as u16, second.1 as u16]

@@ -397,7 +397,7 @@ fn best_chain(first: usize, second: usize, from: impl Fn(usize) -> Vec<(usize, u
     best[second].take()
 }
 
-fn lengths_right(t: &Tables) -> bool {
+pub fn lengths_right(t: &Tables) -> bool {
     (t.blocks.len(), t.runs.len(), t.pairs.len(), t.routes.len(), t.totals.len()) == (BLOCKS, RUNS, PAIRS, ROUTES, TOTALS)
 }
 
