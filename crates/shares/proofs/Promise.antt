@@ -1,20 +1,25 @@
 -- After any list of calls whoever holds fewer runs than promised finds a free number and is not turned down there.
-use mathlib.Core.Path.{_≡_, sym, _∙_}
+use mathlib.Core.Path.{_≡_, refl, sym, _∙_, subst}
 use mathlib.Core.List.{List}
 use mathlib.Core.Bool.{true, _&&_}
 use Prim.Native.Nat.{ℕ, _*_, _<_}
 use native.Mathlib.Omega.{arith}
 use lib.Dec.{eqb}
+use lib.ListN.{replicate}
 use borrow.Author.Tests.{lt-ltb, eqb-true, eq-eqb}
 use Rattle.geometry.specs.Words.{Point, word}
 use Rattle.tables.specs.Tables.{Tables, records}
+use Rattle.tables.proofs.Splices.{word-zeros}
 use Rattle.records.specs.Questions.{placeRight}
 use Rattle.book.specs.Questions.{firstNo}
-use Rattle.book.specs.Book.{free}
-use Rattle.book.specs.Edits.{bookOf}
+use Rattle.book.specs.Book.{emptyBook, free}
+use Rattle.book.specs.Edits.{bookOf, started, Started, Checked}
 use Rattle.book.proofs.Stored.{run-free}
-use Rattle.book.proofs.Demand3.{drawn-book}
-use Rattle.shares.specs.Shares.{Terms, held, freeNumbers, unfilledOf, unfilled, unfilledOthers, sharesRight}
+use Rattle.book.proofs.Sound.{empty-sound}
+use Rattle.book.proofs.Demand3.{started-drawn, drawn-book}
+use Rattle.book.proofs.Checks.{drawn-checks}
+use Rattle.book.proofs.Outcomes.{checked-exists}
+use Rattle.shares.specs.Shares.{Terms, held, freeNumbers, unfilledOf, unfilled, unfilledOthers, listsRight, termsRight, sharesRight}
 use Rattle.shares.specs.Calls.{addRunFor, questionsFor}
 use Rattle.shares.specs.History.{AnyEdit, named, anyAnswer}
 use Rattle.shares.specs.Promise.{CallsFor, Opened, FreeNumber, Promise, KeepsPromise}
@@ -59,6 +64,19 @@ module _ (t : Terms) (T : Tables) (hs : List ℕ) (g : Going t T hs) where
         accepts = λ c m p q lc low lm z r n T′ hs′ s.
             s .answer ∙ drawn-for (g .book) T t hs (addRunFor c m p q) (g .sound) (g .drawn) ∙ grants c lc low m p q lm z r;
       }
+
+-- a yard that was started is one to begin with, under any terms within the rules
+pub started-opened : (t : Terms) (T₀ T : Tables) → Started T₀ 0 T → listsRight t (replicate 24 255) ≡ true → termsRight t ≡ true → Opened t T (replicate 24 255)
+unfolding started
+started-opened t T₀ T st l r =
+    let c = checked-exists T in
+    record {
+      checked = subst (λ (n : ℕ). Checked T n) (drawn-checks emptyBook T (c .0) empty-sound (rw (st .done refl) started-drawn) (c .1)) (c .1);
+      empty = λ m b. rw (st .done refl) (word-zeros 121 (5 * m));
+      unheld = refl;
+      lists = l;
+      terms = r;
+    }
 
 -- question 18 is answered yes after every list of calls
 pub always-right : (t : Terms) (T T′ : Tables) (hs hs′ : List ℕ) (xs : List AnyEdit) (rs : List ℕ)

@@ -13,6 +13,7 @@ unfoldable pub sumBelow : ℕ → (ℕ → ℕ) → ℕ
 sumBelow zero f = 0
 sumBelow (suc n) f = sumBelow n f + f n
 
+-- what a yes counts for
 abbrev pub one : Bool → ℕ
 one b = cond b 1 0
 
@@ -60,6 +61,7 @@ termsRight t = allBelow 4 (λ c. leb (word (t .shares) c) (word (t .ceilings) c)
 abbrev pub holderRight : Bool → ℕ → Bool
 holderRight absent h = cond absent (eqb h 255) (ltb h 4)
 
+-- so it is of all 24
 unfoldable pub holdersRight : List (List Point) → List ℕ → Bool
 holdersRight runs holders = allBelow 24 (λ m. holderRight (free runs m) (word holders m))
 
