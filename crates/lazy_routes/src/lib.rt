@@ -63,13 +63,10 @@ fn tight(
     let b = place_of(blocks, runs, u);
     let square = lengths::squared(a, b);
     let figure = tables::figure_of(runs);
-    if lengths::dearer(figure, square, cost) {
-        return false;
+    if lengths::is_charge(figure, square, cost) {
+        return sight::sees(blocks, runs, near, last, v, a, u, b);
     }
-    if lengths::charge(figure, square) != cost {
-        return false;
-    }
-    sight::sees(blocks, runs, near, last, v, a, u, b)
+    false
 }
 
 // The lowest mark after v by the keys.

@@ -1,11 +1,11 @@
 -- What a straight is charged: never less than its length, and its length where the figure is 0; by its square, without a root where that is enough.
 use mathlib.Core.Path.{_≡_, refl, sym, _∙_}
-use mathlib.Core.Bool.{true, false}
-use Prim.Native.Nat.{ℕ, zero, suc, _*_, _<_, _≤_, max}
+use mathlib.Core.Bool.{Bool, true, false}
+use Prim.Native.Nat.{ℕ, zero, suc, _*_, _-_, _<_, _≤_, max}
 use native.Mathlib.Omega.{arith}
 use native.Mathlib.Decide.{decLt}
-use lib.Dec.{ltb}
-use borrow.Author.Tests.{lt-ltb, le-ltb}
+use lib.Dec.{ltb, eqb}
+use borrow.Author.Tests.{lt-ltb, le-ltb, ltb-true, ltb-false, eq-eqb, ne-eqb}
 use Rattle.lengths.specs.Length.{rootUp}
 use Rattle.lengths.specs.Charge.{charge}
 use Rattle.lengths.proofs.Roots.{root-is}
@@ -69,3 +69,18 @@ module _ (f n : ℕ) where
       go : Dec (most * most < n) → ltb (most * most) n ≡ ltb most (charge f (rootUp n))
       go (yes h) = lt-ltb (most * most) n h ∙ sym (lt-ltb most _ (omega (arith, root-beyond n most h, charge-least f (rootUp n))))
       go (no h) = le-ltb (most * most) n (omega arith) ∙ sym (le-ltb most _ (charge-bound f (rootUp n) most g (root-within n most (omega arith))))
+
+-- whether a number x is just `cost`, by whether it is more than `cost`, and more than the number before
+module _ (x cost : ℕ) where
+  pub charge-beyond : (t : Bool) → t ≡ ltb cost x → t ≡ true → false ≡ eqb x cost
+  charge-beyond t e h = let l = ltb-true cost x (sym e ∙ h) in sym (ne-eqb x cost (λ q. omega arith))
+
+  pub charge-none : (t : Bool) → t ≡ ltb cost x → t ≡ false → cost ≡ 0 → true ≡ eqb x cost
+  charge-none t e h z = let l = ltb-false cost x (sym e ∙ h) in sym (eq-eqb x cost (omega arith))
+
+  pub charge-just : (t : Bool) → t ≡ ltb cost x → t ≡ false → (cost ≡ 0 → ⊥) → (r : Bool) → r ≡ ltb (cost - 1) x → r ≡ eqb x cost
+  charge-just t e h z r d = d ∙ go (decLt (cost - 1) x)
+    where
+      go : Dec (cost - 1 < x) → ltb (cost - 1) x ≡ eqb x cost
+      go (yes l) = let m = ltb-false cost x (sym e ∙ h) in lt-ltb (cost - 1) x l ∙ sym (eq-eqb x cost (omega arith))
+      go (no l) = le-ltb (cost - 1) x (omega arith) ∙ sym (ne-eqb x cost (λ q. omega arith))

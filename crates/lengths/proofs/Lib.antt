@@ -1,3 +1,4 @@
 pub mod Squares
 pub mod Roots
+pub mod Guesses
 pub mod Charges

@@ -6,7 +6,7 @@ use Rattle.lengths.specs.Charge.{charge}
 use Rattle.tables.specs.Tables.{stored}
 use Rattle.search.specs.Network.{cost}
 use Rattle.search.proofs.Steps.{cost-is}
-use Rattle.routing.proofs.TightKeys.{loose-order, loose-straights, loose-dear}
+use Rattle.routing.proofs.TightKeys.{loose-order, loose-straights}
 use Rattle.lazy_routes.proofs.TightKeys.{loose-cost, by-sight}
 use Rattle.lazy_routes.proofs.tight.Statement.{statement}
 use Rattle.lazy_routes.proofs.tight.Tie as tie
@@ -21,17 +21,14 @@ cost-here : (c : tie.After-figure-of) → cost (stored (c .before .before .befor
 cost-here c = cost-is _ _ _ _ _ _ _ (c .before .before .before .before .before .before .before .before .before .pre .0 .3) (c .before .before .place-of .ensures) (c .figure-of .ensures) (c .before .squared .ensures .0)
 
 returns-3 : tie.Need-returns-3
-returns-3 c = (loose-dear _ _ _ _ _ _ _ _ (c .before .before .before .before .before .before .if1 .left) (cost-here (c .before .before)) (c .before .dearer .ensures) (c .if3 .taken), c .before .before .before .before .before .before .before .before .before .before .before .pre .0 .2)
-
-returns-4 : tie.Need-returns-4
-returns-4 c = (loose-cost _ _ _ _ _ _ _ (c .before .before .before .before .before .before .before .before .if1 .left) (cost-here (c .before .before .before .before)) (λ q. omega (arith, c .if4 .taken, c .before .charge .ensures)), c .before .before .before .before .before .before .before .before .before .before .before .before .before .pre .0 .2)
-
-returns-5 : tie.Need-returns-5
-returns-5 c =
-    let s = c .before .before .before .before .before .before .before .before .before .before .before .before .before .before .before .before .before in (
-      by-sight _ _ _ _ _ _ _ (c .before .before .before .before .before .before .before .before .before .before .before .before .if1 .left) (cost-here (c .before .before .before .before .before .before .before .before)) _ (s .pre .1 .2) (omega (arith, c .before .before .before .before .before .before .before .before .before .before .before .if2 .left)) (omega (arith, c .before .before .before .before .if4 .left, c .before .before .before .before .before .charge .ensures)) (c .before .before .sees .ensures .0),
+returns-3 c =
+    let s = c .before .before .before .before .before .before .before .before .before .before .before .before .before .before .before in (
+      by-sight _ _ _ _ _ _ _ (c .before .before .before .before .before .before .before .before .before .before .if1 .left) (cost-here (c .before .before .before .before .before .before)) _ (s .pre .1 .2) (omega (arith, c .before .before .before .before .before .before .before .before .before .if2 .left)) _ (c .before .before .before .before .before .is-charge .ensures) (c .before .before .before .before .if3 .taken) (c .before .before .sees .ensures .0),
       c .before .before .sees .ensures .1,
     )
+
+returns-4 : tie.Need-returns-4
+returns-4 c = (loose-cost _ _ _ _ _ _ _ (c .before .before .before .before .before .before .if1 .left) (cost-here (c .before .before)) _ (c .before .is-charge .ensures) (c .if3 .left), c .before .before .before .before .before .before .before .before .before .before .before .pre .0 .2)
 
 pub tight-spec : {M : Type 1} → statement M
 tight-spec =
@@ -45,9 +42,7 @@ tight-spec =
     (λ c κs. search needs)
     (λ c κs. search needs)
     (λ c κs. search needs)
-    returns-3
-    (λ c κs. search needs)
-    returns-4
     (λ c κs. search needs)
     (λ c. search needs)
-    returns-5)
+    returns-3
+    returns-4)
