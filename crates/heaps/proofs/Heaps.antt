@@ -5,7 +5,7 @@ use Prim.Native.Nat.{ℕ, zero, suc, _+_, _*_, _-_, _/_, _≤_, _<_}
 use native.Mathlib.Decide.{ℕ-discrete}
 use native.Mathlib.Omega.{arith}
 use Rattle.geometry.specs.Words.{word}
-use Rattle.search.specs.inner.Keys.{whole}
+use Rattle.heaps.specs.inner.Sums.{whole}
 use Rattle.heaps.specs.inner.Marks.{Among, Swapped}
 use Rattle.heaps.specs.inner.Heaps.{Heap, Rearranged, LesserChild, Heapable}
 use Rattle.heaps.proofs.Marks.{among, still-once}

@@ -8,8 +8,7 @@ use native.Mathlib.Omega.{arith}
 use lib.Dec.{ltb}
 use borrow.Author.Tests.{ltb-false}
 use Rattle.geometry.specs.Words.{word}
-use Rattle.search.specs.inner.Keys.{unreached, whole}
-use Rattle.heaps.specs.inner.Sums.{Least, Sooner}
+use Rattle.heaps.specs.inner.Sums.{unreached, whole, Least, Sooner}
 
 -- the best of the places from lo on and before j
 pub record BestTo (bounds key order : List ℕ) (lo hi best low j : ℕ) : Type 0 where

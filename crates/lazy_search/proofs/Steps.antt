@@ -1,17 +1,47 @@
 -- What each turn of the loops shows.
 use mathlib.Core.Path.{_≡_, refl, sym, ap, _∙_, subst}
 use mathlib.Core.Logic.{_⊎_, inl, inr, ⊎-elim}
+use mathlib.Core.Bool.{Bool, true, false}
 use mathlib.Core.List.{List}
-use Prim.Native.Nat.{ℕ, _+_, _-_, _≤_, _<_}
+use Prim.Native.Nat.{ℕ, _+_, _*_, _-_, _/_, _≤_, _<_}
 use native.Mathlib.Decide.{ℕ-discrete, decLt}
 use native.Mathlib.Omega.{arith}
+use lib.Dec.{ltb}
+use borrow.Author.Tests.{ltb-true}
 use lib.ListN.{length, set, length-set}
 use lib.Seq.{getD-set-same, getD-set-other}
 use Rattle.paths.specs.Path.{Graph}
 use Rattle.geometry.specs.Words.{word}
-use Rattle.search.specs.inner.Keys.{unreached, weight, Improved}
+use Rattle.tables.specs.Tables.{Records}
+use Rattle.search.specs.Network.{cost, graph}
+use Rattle.search.specs.inner.Keys.{unreached, weight}
+use Rattle.search.proofs.Steps.{below-old}
 use Rattle.heaps.specs.inner.Marks.{Among}
-use Rattle.lazy_search.specs.inner.Lazy.{Exact, Eased, Taken}
+use Rattle.lazy_search.specs.inner.Lazy.{Improved, Exact, Eased, Taken}
+
+-- the key of a mark after a straight is tested
+module _ (R : Records) (Clear : ℕ → ℕ → Type 0) (v s ks old : ℕ) where
+  pub improved-near : old < ks + 2 → Improved (graph R Clear) v s ks old old
+  improved-near l = record { down = omega arith; short = λ e. omega arith; came = inl refl }
+
+  pub improved-hidden : (Clear v s → ⊥) → Improved (graph R Clear) v s ks old old
+  improved-hidden h = record { down = omega arith; short = λ x. absurd (h (x .1)); came = inl refl }
+
+  -- by the straight's cost x, and whether that is more than the key allows
+  pub improved-dear : (x : ℕ) (t : Bool) → ks + 2 ≤ old → cost R v s ≡ x → t ≡ ltb ((old - ks - 2) / 256) x → t ≡ true → Improved (graph R Clear) v s ks old old
+  improved-dear x t l e d h =
+      let g = ltb-true ((old - ks - 2) / 256) x (sym d ∙ h) in
+      record { down = omega arith; short = λ y. omega arith; came = inl refl }
+
+  pub improved-new : (x : ℕ) (t : Bool) → (v ≡ s → old ≡ ks) → ks + 2 ≤ old → Clear v s → cost R v s ≡ x → t ≡ ltb ((old - ks - 2) / 256) x → t ≡ false
+      → Improved (graph R Clear) v s ks old (256 * x + 1 + ks)
+  improved-new x t d l e k j h =
+      let g = below-old ks old x t l j h in
+      record {
+        down = omega arith;
+        short = λ x. omega arith;
+        came = inr ((λ (q : v ≡ s). omega (arith, d q), e), omega arith);
+      }
 
 -- one place more at the end of a part, and at its beginning
 pub among-more : {order : List ℕ} {lo j v : ℕ} → Among order lo (j + 1) v → Among order lo j v ⊎ (v ≡ word order j)

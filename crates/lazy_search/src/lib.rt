@@ -8,10 +8,10 @@ ghost use Rattle.geometry.specs.Words.{pointOf};
 ghost use Rattle.seams.specs.inner.Near.{Near};
 ghost use Rattle.tables.specs.Tables.{stored, placeOf, firstEnd, secondEnd};
 ghost use Rattle.tables.specs.inner.Fit.{Fit};
-ghost use Rattle.search.specs.inner.Keys.{unreached, Filled, Listed, Relaxable, Improved, Searched};
+ghost use Rattle.search.specs.inner.Keys.{unreached, Filled, Listed, Searched};
 ghost use Rattle.sight.specs.inner.Sight.{Sound};
 ghost use Rattle.heaps.specs.inner.Marks.{Among};
-ghost use Rattle.lazy_search.specs.inner.Lazy.{straights, network, Exact, Eased, Taken, Listing, Prepared, Testable, Easing};
+ghost use Rattle.lazy_search.specs.inner.Lazy.{straights, network, Relaxable, Improved, Exact, Eased, Taken, Listing, Prepared, Testable, Easing};
 use geometry::Place;
 use tables::place_of;
 

@@ -1,10 +1,10 @@
 -- Whether two keys differ by a straight.
-use mathlib.Core.Path.{_≡_, sym, _∙_}
-use mathlib.Core.Bool.{Bool, true, false}
+use mathlib.Core.Path.{_≡_}
+use mathlib.Core.Bool.{false}
 use Prim.Native.Nat.{ℕ, _-_, _/_, _%_, _<_, _≤_}
 use native.Mathlib.Omega.{arith}
-use lib.Dec.{ltb, eqb}
-use borrow.Author.Tests.{ltb-true, eqb-true, eqb-false}
+use lib.Dec.{eqb}
+use borrow.Author.Tests.{eqb-true, eqb-false}
 use Rattle.lists.specs.inner.Tells.{Tells}
 use Rattle.lists.proofs.Telling.{tells-no}
 use Rattle.tables.specs.Tables.{Records}
@@ -21,10 +21,7 @@ module _ (R : Records) (Clear : ℕ → ℕ → Type 0) (v u kv ku : ℕ) where
   pub loose-hidden : (Clear v u → ⊥) → Tells (TightKey (graph R Clear) v u kv ku) false
   loose-hidden h = tells-no (λ t. h (t .edge .1))
 
-  -- by the straight's cost x, and whether that is more than the keys differ by
-  pub loose-dear : (x : ℕ) (t : Bool) → ku < kv → cost R v u ≡ x → t ≡ ltb ((kv - ku) / 256) x → t ≡ true → Tells (TightKey (graph R Clear) v u kv ku) false
-  loose-dear x t l e d h = let g = ltb-true ((kv - ku) / 256) x (sym d ∙ h) in tells-no (λ y. omega (arith, y .sum))
-
+  -- by the straight's cost x
   pub by-cost : (x : ℕ) → (v ≡ u → kv ≡ ku) → ku < kv → (kv - ku) % 256 ≡ 1 → Clear v u → cost R v u ≡ x
       → Tells (TightKey (graph R Clear) v u kv ku) (eqb x ((kv - ku) / 256))
   by-cost x d l o e k =

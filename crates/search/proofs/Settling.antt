@@ -4,7 +4,7 @@ use mathlib.Core.Logic.{_⊎_, inl, inr, ⊎-elim}
 use mathlib.Core.Bool.{true, false, true≢false}
 use mathlib.Core.List.{List, [], _∷_}
 use Prim.Native.Nat.{ℕ, _+_, _*_, _-_, _≤_, _<_}
-use native.Mathlib.Decide.{ℕ-discrete, decLt}
+use native.Mathlib.Decide.{ℕ-discrete}
 use native.Mathlib.Omega.{arith}
 use lib.ListN.{length, set, length-set}
 use lib.Seq.{getD-set-same, getD-set-other}
@@ -13,21 +13,26 @@ use Rattle.paths.specs.inner.LowerBound.{ConsistentBound}
 use Rattle.paths.proofs.Short.{chain-two, total-more}
 use Rattle.paths.proofs.Labels.{no-chain}
 use Rattle.geometry.specs.Words.{word}
-use Rattle.tables.specs.Tables.{Records, isCorner, firstEnd, secondEnd}
-use Rattle.tables.specs.inner.Fit.{Fit}
-use Rattle.search.specs.Network.{graph}
-use Rattle.search.specs.inner.LowerBound.{lowerBound}
-use Rattle.search.specs.inner.Keys.{unreached, Filled, weight, Open, Corners, Listed, Looked, Settling, Relaxed, Picked, Vertex, Reaching, Bounding, Keyed, Searched}
-use Rattle.search.proofs.Network.{Sized, sized, corner-below}
-use Rattle.search.proofs.Steps.{open-dec, set-below}
-use Rattle.search.proofs.LowerBounds.{bound-consistent}
+use Rattle.search.specs.inner.Keys.{unreached, whole, Filled, weight, Open, Vertex, Reaching, Bounding, Keyed, Searched}
+use Rattle.search.specs.inner.Parts.{Lowered}
+use Rattle.search.proofs.Network.{Sized}
+use Rattle.search.proofs.Steps.{open-dec}
+
+-- all keys once s is settled: only those of the first n of the list change
+abbrev pub Relaxed : Graph → List ℕ → ℕ → List ℕ → List ℕ → ℕ → ℕ → Type 0
+Relaxed G waiting n key key′ s ks = Lowered key key′ (λ v. Open waiting n v × G .Edge v s) (λ v. weight G v s + ks)
+
+-- r is the place in the list of the least sum of key and bound, or n where no mark is reached
+pub record Picked (bounds key waiting : List ℕ) (n r : ℕ) : Type 0 where
+  pub within : r ≤ n
+  pub reached : r < n → whole bounds key (word waiting r) < unreached
+  pub least : r < n → (j : ℕ) → j < n → whole bounds key (word waiting r) ≤ whole bounds key (word waiting j)
+  pub rest : r ≡ n → (j : ℕ) → j < n → unreached ≤ whole bounds key (word waiting j)
 
 pub record Inv (G : Graph) (start end : ℕ) (bound : ℕ → ℕ) (bounds waiting : List ℕ) (n : ℕ) (key : List ℕ) : Type 0 where
   pub sized : Sized G start end
   pub bounding : Bounding G start bound bounds
-  pub listed : length waiting ≡ 194
   pub keyed : length key ≡ 240
-  pub few : n ≤ 193
   pub only : (v : ℕ) → Open waiting n v → Vertex G start v
   pub target : Open waiting n start
   pub top : (v : ℕ) → v < 240 → word key v ≤ unreached
@@ -58,25 +63,23 @@ module _ {G : Graph} {start end : ℕ} (z : Sized G start end) where
   bound-small a v l = omega (arith, a .step start v, a .none, z .cost-small start v (z .start-below) l)
 
   -- at the beginning only the end is settled
-  pub begin : {bound : ℕ → ℕ} {bounds : List ℕ} → Bounding G start bound bounds → (waiting : List ℕ) (n : ℕ) (key key′ : List ℕ) → length waiting ≡ 194 → n ≤ 193
+  pub begin : {bound : ℕ → ℕ} {bounds : List ℕ} → Bounding G start bound bounds → (waiting : List ℕ) (n : ℕ) (key key′ : List ℕ) → n ≤ 193
       → ((v : ℕ) → Open waiting n v → Vertex G start v) → ((v : ℕ) → Vertex G start v → Open waiting n v) → Filled key 240 unreached
       → Relaxed G waiting n (set key end 0) key′ end 0 → Inv G start end bound bounds waiting n key′
-  begin d waiting n key key′ l f only all e r =
+  begin d waiting n key key′ f only all e r =
       record {
         sized = z;
         bounding = d;
-        listed = l;
         keyed = r .same ∙ length-set key end 0 ∙ e .sized;
-        few = f;
         only = only;
         target = all start (inl refl);
         top = λ v b. omega (arith, r .down v, key-top end key e v b);
         end-zero = omega (arith, r .down end, getD-set-same key end 0 0 (omega (arith, e .sized, z .end-below)));
         order = λ s v x h o. absurd (h (all s x));
-        relaxed-last = λ v x g. omega (arith, r .short v (all v x) g);
+        relaxed-last = λ v x g. omega (arith, r .short v (all v x, g));
         relaxed = λ v s x i g h. absurd (h (all s (inr i)));
         attained = λ v b ne k.
-            ⊎-elim (λ q. absurd (omega (arith, q, getD-set-other key end v 0 0 ne, e .each v b))) (λ p. reaching v (p .0) (p .1) (p .2)) (r .came v);
+            ⊎-elim (λ q. absurd (omega (arith, q, getD-set-other key end v 0 0 ne, e .each v b))) (λ p. reaching v (p .0 .0) (p .0 .1) (p .1)) (r .came v);
       }
     where
       reaching : (v : ℕ) → Open waiting n v → G .Edge v end → word key′ v ≡ weight G v end + 0 → Reaching G start end v (word key′ v) n
@@ -119,244 +122,122 @@ module _ {G : Graph} {start end : ℕ} {bound : ℕ → ℕ} {bounds waiting : L
               key-bound u b (not-end (i .sized) u x) k,
             )
 
-    -- start is the next to be settled
-    start-next : r < n → word waiting r ≡ start → Keyed G start end key
-    start-next l q =
+    -- no mark that is waiting is before start
+    start-done : r < n → word key start ≤ whole bounds key (word waiting r) → Keyed G start end key
+    start-done l q =
         record {
           sized = i .keyed;
           end-zero = i .end-zero;
-          reached = omega (arith, p .reached l, ap (word key) q);
+          reached = omega (arith, p .reached l);
           relaxed-last = i .relaxed-last;
           bound = bound;
           consistent = i .bounding .consistent;
           relaxed = λ v u x j g k. i .relaxed v u x j g (λ o. above-start u o k);
           attained = λ v b e k.
-              let t = i .attained v b e (⊎-elim (λ (h : v ≡ start). omega (arith, p .reached l, ap (word key) q, ap (word key) h)) (λ h. omega (arith, p .reached l, ap (word key) q)) k) in
+              let t = i .attained v b e (⊎-elim (λ (h : v ≡ start). omega (arith, p .reached l, ap (word key) h)) (λ h. omega (arith, p .reached l)) k) in
               record { vertex = t .vertex; by = t .by; chain = t .chain; exact = t .exact; few = omega (arith, t .few) };
         }
       where
         above-start : (u : ℕ) → Open waiting n u → word key u + 256 * bound u < word key start → ⊥
-        above-start u o k =
-            omega (
-              arith,
-              p .least l (o .place) (o .within),
-              ap (word key) (o .is),
-              ap (word bounds) (o .is),
-              ap (word key) q,
-              ap (word bounds) q,
-              bound-is u o,
-              bound-is start (i .target),
-              i .bounding .consistent .none,
-            )
+        above-start u o k = omega (arith, p .least l (o .place) (o .within), ap (word key) (o .is), ap (word bounds) (o .is), bound-is u o)
 
     pub answer-none : n ≤ r → Searched G start end key false
     answer-none l = record { way = λ e. absurd (true≢false (sym e)); no-way = λ e. none-left l }
 
-    pub answer-found : r < n → word waiting r ≡ start → Searched G start end key true
-    answer-found l q = record { way = λ e. start-next l q; no-way = λ e. absurd (true≢false e) }
+    pub answer-found : r < n → word key start ≤ whole bounds key (word waiting r) → Searched G start end key true
+    answer-found l q = record { way = λ e. start-done l q; no-way = λ e. absurd (true≢false e) }
 
     -- one more mark is settled
-    module _ (l : r < n) (ne : word waiting r ≡ start → ⊥) where
+    module _ (l : r < n) (before : whole bounds key (word waiting r) < word key start) where
       abbrev u : ℕ
       u = word waiting r
-
-      abbrev rest : List ℕ
-      rest = set waiting r (word waiting (n - 1))
 
       u-open : Open waiting n u
       u-open = record { place = r; within = l; is = refl }
 
-      u-inner : G .Inner u
-      u-inner = ⊎-elim (λ q. absurd (ne q)) (λ j. j) (i .only u u-open)
+      pub not-start : start ≡ u → ⊥
+      not-start q = omega (arith, ap (word key) q)
 
-      u-below : u < 240
+      pub u-inner : G .Inner u
+      u-inner = ⊎-elim (λ q. absurd (not-start (sym q))) (λ j. j) (i .only u u-open)
+
+      pub u-below : u < 240
       u-below = vertex-below (i .sized) u (inr u-inner)
 
       u-reached : word key u < unreached
       u-reached = omega (arith, p .reached l)
 
-      rest-here : word rest r ≡ word waiting (n - 1)
-      rest-here = getD-set-same waiting r (word waiting (n - 1)) 0 (omega (arith, i .listed, i .few))
+      pub key-small : word key u ≤ 4294967293
+      key-small = omega (arith, u-reached)
 
-      rest-other : (j : ℕ) → (j ≡ r → ⊥) → word rest j ≡ word waiting j
-      rest-other j h = getD-set-other waiting r j (word waiting (n - 1)) 0 h
+      -- what is waiting after was waiting before, and the other way round, but for u
+      module _ {rest : List ℕ} (was-open : (v : ℕ) → Open rest (n - 1) v → Open waiting n v) (still-open : (v : ℕ) → (v ≡ u → ⊥) → Open waiting n v → Open rest (n - 1) v) where
+        settled-before : (s : ℕ) → (Open rest (n - 1) s → ⊥) → (s ≡ u) ⊎ (Open waiting n s → ⊥)
+        settled-before s h = elim (ℕ-discrete s u) [ yes q ↦ inl q | no q ↦ inr (λ o. h (still-open s q o)) ]
 
-      -- what is waiting after was waiting before
-      was-open : (v : ℕ) → Open rest (n - 1) v → Open waiting n v
-      was-open v o =
-          elim (ℕ-discrete (o .place) r) [
-            | yes q ↦ record { place = n - 1; within = omega arith; is = sym rest-here ∙ ap (word rest) (sym q) ∙ o .is }
-            | no q ↦ record { place = o .place; within = omega (arith, o .within); is = sym (rest-other (o .place) q) ∙ o .is }
-          ]
+        module _ {key′ : List ℕ} (x : Relaxed G rest (n - 1) key key′ u (word key u)) where
+          kept : (s : ℕ) → (Open rest (n - 1) s → ⊥) → word key′ s ≡ word key s
+          kept s h = ⊎-elim (λ q. q) (λ q. absurd (h (q .0 .0))) (x .came s)
 
-      -- and the other way round, but for u
-      still-open : (v : ℕ) → (v ≡ u → ⊥) → Open waiting n v → Open rest (n - 1) v
-      still-open v h o =
-          elim (ℕ-discrete (o .place) (n - 1)) [
-            | yes q ↦
-                elim (ℕ-discrete r (n - 1)) [
-                  | yes e ↦ let x : r ≡ o .place = omega arith in absurd (h (sym (o .is) ∙ ap (word waiting) (sym x)))
-                  | no e ↦ record { place = r; within = omega arith; is = rest-here ∙ ap (word waiting) (sym q) ∙ o .is }
-                ]
-            | no q ↦
-                elim (ℕ-discrete (o .place) r) [
-                  | yes e ↦ absurd (h (sym (o .is) ∙ ap (word waiting) e))
-                  | no e ↦ record { place = o .place; within = omega (arith, o .within); is = rest-other (o .place) e ∙ o .is }
-                ]
-          ]
+          below-u : (s : ℕ) → Vertex G start s → (Open rest (n - 1) s → ⊥) → word key s + 256 * bound s ≤ word key u + 256 * bound u
+          below-u s a h = ⊎-elim (λ q. omega (arith, ap (λ (k : ℕ). word key k + 256 * bound k) q)) (λ g. i .order s u a g u-open) (settled-before s h)
 
-      settled-before : (s : ℕ) → (Open rest (n - 1) s → ⊥) → (s ≡ u) ⊎ (Open waiting n s → ⊥)
-      settled-before s h = elim (ℕ-discrete s u) [ yes q ↦ inl q | no q ↦ inr (λ o. h (still-open s q o)) ]
+          above-u : (v : ℕ) → Open waiting n v → word key u + 256 * bound u ≤ word key v + 256 * bound v
+          above-u v o = omega (arith, p .least l (o .place) (o .within), ap (word key) (o .is), ap (word bounds) (o .is), bound-is v o, bound-is u u-open)
 
-      rest-open : (j : ℕ) → j < n - 1 → Open waiting n (word rest j)
-      rest-open j b = was-open (word rest j) (record { place = j; within = b; is = refl })
+          next-order : (s v : ℕ) → Vertex G start s → (Open rest (n - 1) s → ⊥) → Open rest (n - 1) v → word key′ s + 256 * bound s ≤ word key′ v + 256 * bound v
+          next-order s v a h o =
+              let ks = kept s h in
+              let bs = below-u s a h in
+              let bv = above-u v (was-open v o) in
+              ⊎-elim (λ e. omega arith) (λ w. omega (arith, w .1, i .bounding .consistent .step v u)) (x .came v)
 
-      rest-below : (j : ℕ) → j < n - 1 → word rest j < 240
-      rest-below j b = vertex-below (i .sized) (word rest j) (i .only (word rest j) (rest-open j b))
+          next-relaxed : (v s : ℕ) → Vertex G start v → G .Inner s → G .Edge v s → (Open rest (n - 1) s → ⊥) → word key′ v ≤ weight G v s + word key′ s
+          next-relaxed v s a j g h =
+              let ks = kept s h in
+              ⊎-elim
+              (λ q.
+              elim (open-dec rest (n - 1) v) [
+                | yes o ↦
+                    let g′ : G .Edge v u = subst (λ (k : ℕ). G .Edge v k) q g in
+                    omega (arith, x .short v (o, g′), ap (λ (k : ℕ). weight G v k + word key k) q)
+                | no o ↦ omega (arith, kept v o, below-u v a o, i .bounding .consistent .step v u, ap (λ (k : ℕ). weight G v k + word key k) q)
+              ])
+              (λ b. omega (arith, x .down v, i .relaxed v s a j g b))
+              (settled-before s h)
 
-      rest-sized : length rest ≡ 194
-      rest-sized = length-set waiting r (word waiting (n - 1)) ∙ i .listed
+          next-attained : (v : ℕ) → v < 240 → (v ≡ end → ⊥) → word key′ v < unreached → Reaching G start end v (word key′ v) (n - 1)
+          next-attained v b e k =
+              ⊎-elim
+              (λ q.
+              let t = i .attained v b e (omega arith) in
+              record { vertex = t .vertex; by = t .by; chain = t .chain; exact = t .exact ∙ sym q; few = omega (arith, t .few); short = t .short })
+              (λ w.
+              let t = i .attained u u-below (not-end (i .sized) u (inr u-inner)) u-reached in
+              let two = chain-two G end (t .chain) in
+              let c = i .sized .cost-small v u b u-below in
+              record {
+                vertex = i .only v (was-open v (w .0 .0));
+                by = v ∷ t .by;
+                chain = more u-inner (w .0 .1) (t .chain);
+                exact = omega (arith, t .exact, w .1, total-more G end v (t .chain));
+                few = omega (arith, t .few);
+                short = omega (arith, t .short, total-more G end v (t .chain));
+              })
+              (x .came v)
 
-      pub settling : Settling bounds rest (n - 1) key u (word key u)
-      settling =
-          record {
-            list = record { marks = rest-below; sized = rest-sized; few = omega (arith, i .few) };
-            keyed = i .keyed;
-            top = i .top;
-            looked = i .bounding .sized;
-            near = λ j b. omega (arith, bound-is (word rest j) (rest-open j b), bound-small (i .sized) (i .bounding .consistent) (word rest j) (rest-below j b));
-            below = u-below;
-            own = refl;
-            small = omega (arith, key-bound u u-below (not-end (i .sized) u (inr u-inner)) u-reached);
-          }
-
-      module _ {key′ : List ℕ} (x : Relaxed G rest (n - 1) key key′ u (word key u)) where
-        kept : (s : ℕ) → (Open rest (n - 1) s → ⊥) → word key′ s ≡ word key s
-        kept s h = ⊎-elim (λ q. q) (λ q. absurd (h (q .0))) (x .came s)
-
-        below-u : (s : ℕ) → Vertex G start s → (Open rest (n - 1) s → ⊥) → word key s + 256 * bound s ≤ word key u + 256 * bound u
-        below-u s a h = ⊎-elim (λ q. omega (arith, ap (λ (k : ℕ). word key k + 256 * bound k) q)) (λ g. i .order s u a g u-open) (settled-before s h)
-
-        above-u : (v : ℕ) → Open waiting n v → word key u + 256 * bound u ≤ word key v + 256 * bound v
-        above-u v o = omega (arith, p .least l (o .place) (o .within), ap (word key) (o .is), ap (word bounds) (o .is), bound-is v o, bound-is u u-open)
-
-        next-order : (s v : ℕ) → Vertex G start s → (Open rest (n - 1) s → ⊥) → Open rest (n - 1) v → word key′ s + 256 * bound s ≤ word key′ v + 256 * bound v
-        next-order s v a h o =
-            let ks = kept s h in
-            let bs = below-u s a h in
-            let bv = above-u v (was-open v o) in
-            ⊎-elim (λ e. omega arith) (λ w. omega (arith, w .2, i .bounding .consistent .step v u)) (x .came v)
-
-        next-relaxed : (v s : ℕ) → Vertex G start v → G .Inner s → G .Edge v s → (Open rest (n - 1) s → ⊥) → word key′ v ≤ weight G v s + word key′ s
-        next-relaxed v s a j g h =
-            let ks = kept s h in
-            ⊎-elim
-            (λ q.
-            elim (open-dec rest (n - 1) v) [
-              | yes o ↦
-                  let g′ : G .Edge v u = subst (λ (k : ℕ). G .Edge v k) q g in
-                  omega (arith, x .short v o g′, ap (λ (k : ℕ). weight G v k + word key k) q)
-              | no o ↦ omega (arith, kept v o, below-u v a o, i .bounding .consistent .step v u, ap (λ (k : ℕ). weight G v k + word key k) q)
-            ])
-            (λ b. omega (arith, x .down v, i .relaxed v s a j g b))
-            (settled-before s h)
-
-        next-attained : (v : ℕ) → v < 240 → (v ≡ end → ⊥) → word key′ v < unreached → Reaching G start end v (word key′ v) (n - 1)
-        next-attained v b e k =
-            ⊎-elim
-            (λ q.
-            let t = i .attained v b e (omega arith) in
-            record { vertex = t .vertex; by = t .by; chain = t .chain; exact = t .exact ∙ sym q; few = omega (arith, t .few); short = t .short })
-            (λ w.
-            let t = i .attained u u-below (not-end (i .sized) u (inr u-inner)) u-reached in
-            let two = chain-two G end (t .chain) in
-            let c = i .sized .cost-small v u b u-below in
-            record {
-              vertex = i .only v (was-open v (w .0));
-              by = v ∷ t .by;
-              chain = more u-inner (w .1) (t .chain);
-              exact = omega (arith, t .exact, w .2, total-more G end v (t .chain));
-              few = omega (arith, t .few);
-              short = omega (arith, t .short, total-more G end v (t .chain));
-            })
-            (x .came v)
-
-        pub next : Inv G start end bound bounds rest (n - 1) key′
-        next =
-            record {
-              sized = i .sized;
-              bounding = i .bounding;
-              listed = rest-sized;
-              keyed = x .same ∙ i .keyed;
-              few = omega (arith, i .few);
-              only = λ v o. i .only v (was-open v o);
-              target = still-open start (λ q. ne (sym q)) (i .target);
-              top = λ v b. omega (arith, x .down v, i .top v b);
-              end-zero = kept end (λ o. not-end (i .sized) end (i .only end (was-open end o)) refl) ∙ i .end-zero;
-              order = next-order;
-              relaxed-last = λ v a g. omega (arith, x .down v, i .relaxed-last v a g);
-              relaxed = next-relaxed;
-              attained = next-attained;
-            }
-
--- the list of the corners with start behind them
-module _ {R : Records} {m : ℕ} (f : Fit R) (b : m < 24) {waiting : List ℕ} {n : ℕ} (c : Corners (R .blocks) waiting 192 n) where
-  abbrev list : List ℕ
-  list = set waiting n (firstEnd m)
-
-  start-here : word list n ≡ firstEnd m
-  start-here = getD-set-same waiting n (firstEnd m) 0 (omega (arith, c .sized, c .few))
-
-  list-only : (v : ℕ) → Open list (n + 1) v → (v ≡ firstEnd m) ⊎ (isCorner (R .blocks) v ≡ true)
-  list-only v o =
-      elim (decLt (o .place) n) [
-        | yes l ↦ inr (subst (λ (x : ℕ). isCorner (R .blocks) x ≡ true) (sym (set-below waiting n (o .place) (firstEnd m) l) ∙ o .is) (c .only (o .place) l))
-        | no l ↦ let q : n ≡ o .place = omega (arith, o .within) in inl (sym (o .is) ∙ ap (word list) (sym q) ∙ start-here)
-      ]
-
-  list-all : (v : ℕ) → (v ≡ firstEnd m) ⊎ (isCorner (R .blocks) v ≡ true) → Open list (n + 1) v
-  list-all v (inl q) = record { place = n; within = omega arith; is = start-here ∙ sym q }
-  list-all v (inr e) =
-      let o = c .all v (corner-below (R .blocks) v e) e in
-      record { place = o .place; within = omega (arith, o .within); is = set-below waiting n (o .place) (firstEnd m) (o .within) ∙ o .is }
-
-  list-sized : length list ≡ 194
-  list-sized = length-set waiting n (firstEnd m) ∙ c .sized
-
-  pub list-listed : Listed list (n + 1)
-  list-listed =
-      record {
-        marks = λ j h. vertex-below (sized R (λ v u. ⊥) m f b) (word list j) (list-only (word list j) (record { place = j; within = h; is = refl }));
-        sized = list-sized;
-        few = omega (arith, c .few);
-      }
-
-  module _ {bounds key : List ℕ} (a : Looked (lowerBound R (firstEnd m)) list (n + 1) bounds) (e : Filled key 240 unreached) where
-    -- the end is relaxed first
-    pub first-settling : Settling bounds list (n + 1) (set key (secondEnd m) 0) (secondEnd m) 0
-    first-settling =
-        record {
-          list = list-listed;
-          keyed = length-set key (secondEnd m) 0 ∙ e .sized;
-          top = key-top (secondEnd m) key e;
-          looked = a .sized;
-          near = λ j h.
-              omega (arith, a .each j h, bound-small (sized R (λ v u. ⊥) m f b) (bound-consistent R (λ v u. ⊥) (firstEnd m)) (word list j) (list-listed .marks j h));
-          below = omega arith;
-          own = getD-set-same key (secondEnd m) 0 0 (omega (arith, e .sized));
-          small = omega arith;
-        }
-
-    pub first-inv : {Clear : ℕ → ℕ → Type 0} {key′ : List ℕ} → Relaxed (graph R Clear) list (n + 1) (set key (secondEnd m) 0) key′ (secondEnd m) 0
-        → Inv (graph R Clear) (firstEnd m) (secondEnd m) (lowerBound R (firstEnd m)) bounds list (n + 1) key′
-    first-inv {Clear} {key′} r = begin (sized R Clear m f b) bounding list (n + 1) key key′ list-sized (omega (arith, c .few)) list-only list-all e r
-      where
-        bounding : Bounding (graph R Clear) (firstEnd m) (lowerBound R (firstEnd m)) bounds
-        bounding =
-            record {
-              consistent = bound-consistent R Clear (firstEnd m);
-              sized = a .sized;
-              each = λ v x.
-                  let o = list-all v x in
-                  subst (λ (w : ℕ). word bounds w ≡ 256 * lowerBound R (firstEnd m) w) (o .is) (a .each (o .place) (o .within));
-            }
+          pub next : Inv G start end bound bounds rest (n - 1) key′
+          next =
+              record {
+                sized = i .sized;
+                bounding = i .bounding;
+                keyed = x .same ∙ i .keyed;
+                only = λ v o. i .only v (was-open v o);
+                target = still-open start not-start (i .target);
+                top = λ v b. omega (arith, x .down v, i .top v b);
+                end-zero = kept end (λ o. not-end (i .sized) end (i .only end (was-open end o)) refl) ∙ i .end-zero;
+                order = next-order;
+                relaxed-last = λ v a g. omega (arith, x .down v, i .relaxed-last v a g);
+                relaxed = next-relaxed;
+                attained = next-attained;
+              }

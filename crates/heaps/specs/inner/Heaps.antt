@@ -4,9 +4,8 @@ use mathlib.Core.List.{List}
 use Prim.Native.Nat.{ℕ, _+_, _*_, _≤_, _<_}
 use lib.ListN.{length}
 use Rattle.geometry.specs.Words.{word}
-use Rattle.search.specs.inner.Keys.{whole}
 use Rattle.heaps.specs.inner.Marks.{Among, Once}
-use Rattle.heaps.specs.inner.Sums.{Comparable}
+use Rattle.heaps.specs.inner.Sums.{whole, Comparable}
 
 -- the first n of the list are a heap below the places from `from` on
 pub record Heap (bounds key order : List ℕ) (from n : ℕ) : Type 0 where

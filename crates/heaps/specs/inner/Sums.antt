@@ -2,10 +2,17 @@
 use mathlib.Core.Path.{_≡_}
 use mathlib.Core.Bool.{Bool, true, false}
 use mathlib.Core.List.{List}
-use Prim.Native.Nat.{ℕ, _≤_, _<_}
+use Prim.Native.Nat.{ℕ, _+_, _≤_, _<_}
 use lib.ListN.{length}
 use Rattle.geometry.specs.Words.{word}
-use Rattle.search.specs.inner.Keys.{unreached, whole}
+
+-- the key of a mark that is not reached: above all others, and a word with any bound added
+abbrev pub unreached : ℕ
+unreached = 4000000000
+
+-- a mark's key with its bound
+abbrev pub whole : List ℕ → List ℕ → ℕ → ℕ
+whole bounds key v = word key v + word bounds v
 
 -- what the choice of a mark asks: no sum leaves 32 bits
 pub record Comparable (bounds key order : List ℕ) (lo hi : ℕ) : Type 0 where

@@ -1,4 +1,4 @@
--- Each return is one law of `search`.
+-- Each return is one law of Steps.
 use mathlib.Core.Path.{_≡_, sym, _∙_}
 use Prim.Native.Nat.{_+_, _*_, _<_}
 use native.Mathlib.Omega.{arith}
@@ -7,9 +7,9 @@ use Rattle.lists.proofs.Telling.{told, denied}
 use Rattle.lengths.specs.Length.{rootUp}
 use Rattle.lengths.specs.Charge.{charge}
 use Rattle.tables.specs.Tables.{stored}
-use Rattle.visibility.specs.Visibility.{ByPlaces}
 use Rattle.search.specs.Network.{cost}
-use Rattle.search.proofs.Steps.{cost-is, improved-near, improved-hidden, improved-dear, improved-new, new-below}
+use Rattle.search.proofs.Steps.{cost-is, below-old}
+use Rattle.lazy_search.proofs.Steps.{improved-near, improved-hidden, improved-dear, improved-new}
 use Rattle.lazy_search.proofs.improved.Statement.{statement}
 use Rattle.lazy_search.proofs.improved.Tie as tie
 
@@ -19,8 +19,7 @@ cost-here c = cost-is _ _ _ _ _ _ _ (c .before .before .before .before .before .
 new-here : (c : tie.After-charge) → 256 * c .charge .result + 1 + c .before .before .before .before .before .before .before .before .before .before .before .before .before .before .before .args .ks < c .before .before .before .before .before .before .before .before .before .before .before .before .before .before .before .args .old
 new-here c =
     let s = c .before .before .before .before .before .before .before .before .before .before .before .before .before .before .before in
-    let R = stored (s .args .blocks .now) (s .args .runs .now) in
-    omega (arith, c .charge .ensures, new-below R (ByPlaces R) (s .args .v) (s .args .s) (s .args .ks) (s .args .old) _ _ (c .before .before .before .before .before .before .before .before .before .before .if1 .left) (c .before .before .before .before .before .before .before .dearer .ensures) (c .before .before .before .before .before .before .if2 .left))
+    omega (arith, c .charge .ensures, below-old (s .args .ks) (s .args .old) _ _ (c .before .before .before .before .before .before .before .before .before .before .if1 .left) (c .before .before .before .before .before .before .before .dearer .ensures) (c .before .before .before .before .before .before .if2 .left))
 
 returns-4 : tie.Need-returns-4
 returns-4 c =

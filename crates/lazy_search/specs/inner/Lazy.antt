@@ -6,8 +6,8 @@ use mathlib.Core.List.{List}
 use Prim.Native.Nat.{ℕ, _+_, _≤_, _<_}
 use lib.ListN.{length}
 use Rattle.paths.specs.Path.{Graph}
-use Rattle.geometry.specs.Words.{word}
-use Rattle.tables.specs.Tables.{Records, firstEnd, secondEnd}
+use Rattle.geometry.specs.Words.{Point, word}
+use Rattle.tables.specs.Tables.{Records, placeOf, firstEnd, secondEnd}
 use Rattle.visibility.specs.Visibility.{ByPlaces}
 use Rattle.search.specs.Network.{cost, graph}
 use Rattle.search.specs.inner.LowerBound.{lowerBound}
@@ -22,6 +22,20 @@ straights R = graph R (ByPlaces R)
 -- the graph that is searched: those straights, and the bending places that are listed
 abbrev pub network : Records → List ℕ → ℕ → Graph
 network R bends n = record { Inner = λ u. Among bends 0 n u; Edge = straights R .Edge; cost = cost R }
+
+-- what relaxing a mark v by a settled mark s asks
+pub record Relaxable (R : Records) (v s : ℕ) (at : Point) (ks old : ℕ) : Type 0 where
+  pub below : v < 240
+  pub settled-below : s < 240
+  pub place : at ≡ placeOf R s
+  pub small : ks ≤ 4294967293
+  pub itself : v ≡ s → old ≡ ks
+
+-- the key of v once s, whose key is ks, is settled
+pub record Improved (G : Graph) (v s ks old new : ℕ) : Type 0 where
+  pub down : new ≤ old
+  pub short : G .Edge v s → new ≤ weight G v s + ks
+  pub came : (new ≡ old) ⊎ (G .Edge v s × (new ≡ weight G v s + ks))
 
 -- a clear straight from v to a mark of D gives the key r
 pub record By (G : Graph) (D : ℕ → Type 0) (key : List ℕ) (v r : ℕ) : Type 0 where

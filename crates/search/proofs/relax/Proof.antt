@@ -1,47 +1,88 @@
--- The loop keeps: the first j of the list are relaxed, and `best` is the place of the least sum of key and bound among them.
-use mathlib.Core.Path.{_≡_, refl}
-use mathlib.Core.Logic.{⊎-elim}
-use Prim.Native.Nat.{_-_, _<_, _≤_}
+-- The loop keeps: the near corners below 64 q are relaxed.
+use mathlib.Core.Path.{refl, sym, _∙_}
+use mathlib.Core.Logic.{inl}
+use Prim.Native.Nat.{_-_, _≤_}
 use native.Mathlib.Omega.{arith}
 use borrow.Author.Needs.{needs}
-use Rattle.geometry.specs.Words.{word}
 use Rattle.tables.specs.Tables.{stored}
-use Rattle.search.specs.Network.{ByBytes, graph}
-use Rattle.search.specs.inner.Keys.{Relaxed}
-use Rattle.search.proofs.Steps.{relaxed-none, relaxed-next, own-kept, Best, best-none, best-kept, best-new, best-picked}
+use Rattle.search.specs.inner.Parts.{Passed, via}
+use Rattle.search.proofs.Relaxing.{Below, below-none, marked-here, below-next, first-hidden, first-seen}
 use Rattle.search.proofs.relax.Statement.{statement}
 use Rattle.search.proofs.relax.Tie as tie
 
 abbrev Inv-loop : tie.InvT-loop
-Inv-loop blocks runs pairs bounds waiting n key₀ s ks at best₀ low₀ j₀ key best low j = (j ≤ n) × Relaxed (graph (stored blocks runs) (ByBytes pairs)) waiting j key₀ key s ks × Best bounds key waiting n best low j
+Inv-loop blocks runs pairs row by first u waiting₀ spot₀ key₀ low₀ q₀ waiting spot key low q = (q ≤ 3) × Passed (via (stored blocks runs) by) (Below blocks pairs (by .mark) q) waiting₀ spot₀ key₀ waiting spot key low (by .left)
 
 abbrev μ-loop : tie.MeasureT-loop
-μ-loop blocks runs pairs bounds waiting n key₀ s ks at best₀ low₀ j₀ key best low j = n - j
+μ-loop blocks runs pairs row by first u waiting₀ spot₀ key₀ low₀ q₀ waiting spot key low q = 3 - q
 
-mark-below : (c : tie.In-loop Inv-loop μ-loop) → word (c .before .before .before .before .before .before .before .before .before .args .waiting .now) (c .before .loop .j) < 240
-mark-below c = c .before .before .before .before .before .before .before .before .before .pre .1 .list .marks (c .before .loop .j) (c .loop-test .taken)
+loop-holds : tie.Need-loop-holds Inv-loop μ-loop
+loop-holds c = (omega arith, below-none (c .before .before .before .before .before .before .before .pre .1 .1 .0))
 
-add-whole : tie.Need-add-whole Inv-loop μ-loop
-add-whole c =
+mul-relax-word : tie.Need-mul-relax-word Inv-loop μ-loop
+mul-relax-word c = search needs
+
+shared-slice-read-relax-word : tie.Need-shared-slice-read-relax-word Inv-loop μ-loop
+shared-slice-read-relax-word c = search needs
+
+mul-relax-word-2 : tie.Need-mul-relax-word-2 Inv-loop μ-loop
+mul-relax-word-2 c = search needs
+
+relax-word-requires : tie.Need-relax-word-requires Inv-loop μ-loop
+relax-word-requires c κs =
     let s = c .before .before .before .before .before .before .before .before .before .before .before .before .before in
-    let t = c .before .before .before .before in
-    let v = word (s .args .waiting .now) (t .before .loop .j) in
-    omega (arith, c .before .improved .ensures .down, t .before .loop .inv .1 .down v, s .pre .1 .top v (mark-below t), s .pre .1 .near (t .before .loop .j) (t .loop-test .taken))
+    let x = c .before .before .before .before .before .loop .inv .1 in (
+      (s .pre .0 .0 .fit, s .pre .0 .1),
+      (
+        x .parted,
+        λ v m.
+            let h = marked-here (s .pre .0 .2) (s .pre .1 .1 .1) (c .before .before .before .before .loop-test .taken) (c .before .before .before .shared-slice-known5 .given _ .fits) v m in
+            (h .0, x .sorted .here v (h .1)),
+      ),
+    )
+
+add-q : tie.Need-add-q Inv-loop μ-loop
+add-q c = search needs
+
+loop-less : tie.Need-loop-less Inv-loop μ-loop
+loop-less c = search needs
 
 loop-again : tie.Need-loop-again Inv-loop μ-loop
-loop-again c =
+loop-again c = (omega arith, below-next (c .before .before .before .before .before .before .before .before .before .before .before .before .before .before .before .before .before .before .before .before .pre .0 .2) (c .before .before .before .before .before .before .before .before .before .before .before .before .loop .inv .1) (c .before .before .before .before .before .before .before .before .before .before .before .loop-test .taken) (c .before .before .before .before .before .before .before .before .before .before .shared-slice-known5 .given _ .fits) (c .before .before .before .before .before .before .relax-word .ensures))
+
+pair-byte-requires : tie.Need-pair-byte-requires Inv-loop μ-loop
+pair-byte-requires c κs = let s = c .before .before .before .before .before .before .before .before .before in (s .pre .0 .0 .sized, s .pre .1 .0 .0, s .pre .0 .1 .below, s .pre .1 .0 .1)
+
+same-length : tie.Need-same-length Inv-loop μ-loop
+same-length c = c .before .before .before .loop .inv .1 .parted .sized ∙ sym (c .before .before .before .before .before .before .before .before .before .before .before .pre .1 .1 .0 .sized)
+
+same-length-2 : tie.Need-same-length-2 Inv-loop μ-loop
+same-length-2 c = c .before .before .before .loop .inv .1 .parted .spots ∙ sym (c .before .before .before .before .before .before .before .before .before .before .before .pre .1 .1 .0 .spots)
+
+same-length-3 : tie.Need-same-length-3 Inv-loop μ-loop
+same-length-3 c = c .before .before .before .loop .inv .1 .parted .keyed ∙ sym (c .before .before .before .before .before .before .before .before .before .before .before .pre .1 .1 .0 .keyed)
+
+returns : tie.Need-returns Inv-loop μ-loop
+returns c = first-hidden (c .before .before .before .before .before .before .before .before .before .before .before .pre .1 .1 .1) (c .before .before .loop-test .left) (c .before .before .before .loop .inv .1) (λ e. c .if1 .taken (c .before .pair-byte .ensures ∙ e))
+
+relax-mark-requires : tie.Need-relax-mark-requires Inv-loop μ-loop
+relax-mark-requires c κs =
     let s = c .before .before .before .before .before .before .before .before .before .before .before .before .before .before in
-    let t = c .before .before .before .before .before in
-    let i = t .before .loop .inv in
-    let m = mark-below t in
-    let e = c .before .before .improved .ensures in (
-      omega arith,
-      relaxed-next _ _ _ _ _ _ _ _ _ (s .pre .1 .keyed) refl m (i .1) e,
-      ⊎-elim
-          (λ w. rw (w .1, w .2) (best-new _ _ _ _ _ _ _ _ _ _ _ _ _ (s .pre .1 .keyed) refl m (i .1) e (i .2) (t .loop-test .taken) (w .0 .taken)))
-          (λ w. rw (w .1, w .2) (best-kept _ _ _ _ _ _ _ _ _ _ _ _ _ (s .pre .1 .keyed) refl m (i .1) e (i .2) (w .0 .left)))
-          (c .if1 .came),
-    )
+    let x = c .before .before .before .before .before .before .loop .inv .1 in
+    ((s .pre .0 .0 .fit, s .pre .0 .1, s .pre .1 .0 .0), (x .parted, x .sorted .here _ (s .pre .1 .1 .1 .all _ (inl refl))))
+
+same-length-4 : tie.Need-same-length-4 Inv-loop μ-loop
+same-length-4 c = c .before .before .before .before .before .before .relax-mark .ensures .parted .sized ∙ sym (c .before .before .before .before .before .before .before .before .before .before .before .before .before .before .before .before .before .before .before .before .before .pre .1 .1 .0 .sized)
+
+same-length-5 : tie.Need-same-length-5 Inv-loop μ-loop
+same-length-5 c = c .before .before .before .before .before .before .relax-mark .ensures .parted .spots ∙ sym (c .before .before .before .before .before .before .before .before .before .before .before .before .before .before .before .before .before .before .before .before .before .pre .1 .1 .0 .spots)
+
+same-length-6 : tie.Need-same-length-6 Inv-loop μ-loop
+same-length-6 c = c .before .before .before .before .before .before .relax-mark .ensures .parted .keyed ∙ sym (c .before .before .before .before .before .before .before .before .before .before .before .before .before .before .before .before .before .before .before .before .before .pre .1 .1 .0 .keyed)
+
+returns-2 : tie.Need-returns-2 Inv-loop μ-loop
+returns-2 c = let s = c .before .before .before .before .before .before .before .before .before .before .before .before .before .before .before .before .before .before .before .before .before in
+    first-seen (s .pre .1 .1 .1) (c .before .before .before .before .before .before .before .before .before .before .before .before .loop-test .left) (c .before .before .before .before .before .before .before .before .before .before .before .before .before .loop .inv .1) (s .pre .1 .0 .1) (sym (c .before .before .before .before .before .before .before .before .before .before .before .pair-byte .ensures) ∙ c .before .before .before .before .before .before .before .before .before .before .if1 .left) (c .before .before .before .before .before .before .relax-mark .ensures)
 
 pub relax-spec : {M : Type 1} → statement M
 relax-spec =
@@ -49,23 +90,21 @@ relax-spec =
     (tie.spec
     Inv-loop
     μ-loop
-    (λ c κs. search needs)
-    (λ c. (omega arith, relaxed-none _ _ _ _ _, best-none _ _ _ _))
-    (λ c. search needs)
-    (λ c. search needs)
-    (λ c. omega (arith, mark-below (c .before)))
-    (λ c. omega (arith, mark-below (c .before)))
-    (λ c. omega (arith, mark-below (c .before .before), c .before .before .before .loop .inv .1 .same, c .before .before .before .before .before .before .before .before .before .before .before .pre .1 .keyed))
-    (λ c κs. let s = c .before .before .before .before .before .before .before .before .before .before .before in
-    (s .pre .0, record { below = mark-below (c .before .before); settled-below = s .pre .1 .below; place = c .before .before .before .before .place-of .ensures; small = s .pre .1 .small; itself = own-kept _ _ _ _ _ _ _ _ _ (s .pre .1 .own) (c .before .before .before .loop .inv .1) }))
-    (λ c. omega (arith, mark-below (c .before .before .before)))
-    (λ c. omega (arith, mark-below (c .before .before .before), c .before .before .before .before .loop .inv .1 .same, c .before .before .before .before .before .before .before .before .before .before .before .before .pre .1 .keyed))
-    (λ c. omega (arith, mark-below (c .before .before .before)))
-    (λ c. omega (arith, mark-below (c .before .before .before .before), c .before .before .before .before .before .before .before .before .before .before .before .before .before .pre .1 .looked))
-    add-whole
-    (λ c. search needs)
-    (λ c. search needs)
+    loop-holds
+    mul-relax-word
+    shared-slice-read-relax-word
+    mul-relax-word-2
+    relax-word-requires
+    add-q
+    loop-less
     loop-again
-    (λ c. c .before .loop .inv .1 .same)
-    (λ c. let q : c .before .loop .j ≡ c .before .before .before .before .before .before .before .before .before .args .n = omega arith in
-    (rw q at (c .before .loop .inv .1), best-picked _ _ _ _ _ _ _ (c .loop-test .left) (c .before .loop .inv .2))))
+    pair-byte-requires
+    same-length
+    same-length-2
+    same-length-3
+    returns
+    relax-mark-requires
+    same-length-4
+    same-length-5
+    same-length-6
+    returns-2)

@@ -7,13 +7,10 @@ use Prim.Native.Nat.{ℕ, _+_, _*_, _-_, _≤_, _<_}
 use lib.ListN.{length}
 use Rattle.paths.specs.Path.{Graph, Chain, total, NoChain}
 use Rattle.paths.specs.inner.LowerBound.{ConsistentBound}
-use Rattle.geometry.specs.Words.{Point, word}
-use Rattle.tables.specs.Tables.{Records, isCorner, placeOf}
+use Rattle.geometry.specs.Words.{word}
+use Rattle.tables.specs.Tables.{Records}
 use Rattle.tables.specs.inner.Fit.{Fit}
-
--- the key of a mark that is not reached: above all others, and a word with any bound added
-abbrev pub unreached : ℕ
-unreached = 4000000000
+pub use Rattle.heaps.specs.inner.Sums.{unreached, whole}
 
 -- the list has n words, each of them x
 pub record Filled (t : List ℕ) (n x : ℕ) : Type 0 where
@@ -30,13 +27,6 @@ pub record Open (waiting : List ℕ) (n v : ℕ) : Type 0 where
   pub within : place < n
   pub is : word waiting place ≡ v
 
--- the first n of the list are the corners below top
-pub record Corners (blocks waiting : List ℕ) (top n : ℕ) : Type 0 where
-  pub sized : length waiting ≡ 194
-  pub few : n ≤ top
-  pub all : (u : ℕ) → u < top → isCorner blocks u ≡ true → Open waiting n u
-  pub only : (j : ℕ) → j < n → isCorner blocks (word waiting j) ≡ true
-
 -- the first n of the list are marks
 pub record Listed (waiting : List ℕ) (n : ℕ) : Type 0 where
   pub marks : (j : ℕ) → j < n → word waiting j < 240
@@ -52,49 +42,6 @@ pub record Looked (bound : ℕ → ℕ) (waiting : List ℕ) (n : ℕ) (bounds :
 pub record Searchable (R : Records) (pairs : List ℕ) : Type 0 where
   pub fit : Fit R
   pub sized : length pairs ≡ 28680
-
--- what relaxing a mark v by a settled mark s asks
-pub record Relaxable (R : Records) (v s : ℕ) (at : Point) (ks old : ℕ) : Type 0 where
-  pub below : v < 240
-  pub settled-below : s < 240
-  pub place : at ≡ placeOf R s
-  pub small : ks ≤ 4294967293
-  pub itself : v ≡ s → old ≡ ks
-
--- the key of v once s, whose key is ks, is settled
-pub record Improved (G : Graph) (v s ks old new : ℕ) : Type 0 where
-  pub down : new ≤ old
-  pub short : G .Edge v s → new ≤ weight G v s + ks
-  pub came : (new ≡ old) ⊎ (G .Edge v s × (new ≡ weight G v s + ks))
-
--- what relaxing the first n of the list by s asks
-pub record Settling (bounds waiting : List ℕ) (n : ℕ) (key : List ℕ) (s ks : ℕ) : Type 0 where
-  pub list : Listed waiting n
-  pub keyed : length key ≡ 240
-  pub top : (v : ℕ) → v < 240 → word key v ≤ unreached
-  pub looked : length bounds ≡ 240
-  pub near : (j : ℕ) → j < n → word bounds (word waiting j) ≤ 11863040
-  pub below : s < 240
-  pub own : word key s ≡ ks
-  pub small : ks ≤ 4294967293
-
--- all keys once s is settled: only those of the first n of the list change
-pub record Relaxed (G : Graph) (waiting : List ℕ) (n : ℕ) (key key′ : List ℕ) (s ks : ℕ) : Type 0 where
-  pub same : length key′ ≡ length key
-  pub down : (v : ℕ) → word key′ v ≤ word key v
-  pub short : (v : ℕ) → Open waiting n v → G .Edge v s → word key′ v ≤ weight G v s + ks
-  pub came : (v : ℕ) → (word key′ v ≡ word key v) ⊎ (Open waiting n v × G .Edge v s × (word key′ v ≡ weight G v s + ks))
-
--- a mark's key with its bound
-abbrev pub whole : List ℕ → List ℕ → ℕ → ℕ
-whole bounds key v = word key v + word bounds v
-
--- r is the place in the list of the least such sum, or n where no mark is reached
-pub record Picked (bounds key waiting : List ℕ) (n r : ℕ) : Type 0 where
-  pub within : r ≤ n
-  pub reached : r < n → whole bounds key (word waiting r) < unreached
-  pub least : r < n → (j : ℕ) → j < n → whole bounds key (word waiting r) ≤ whole bounds key (word waiting j)
-  pub rest : r ≡ n → (j : ℕ) → j < n → unreached ≤ whole bounds key (word waiting j)
 
 -- what a chain from start may leave from
 abbrev pub Vertex : Graph → ℕ → ℕ → Type 0
