@@ -179,7 +179,7 @@ pub fn either(x: i64, y: i64) -> bool
     0 < y
 }
 
-fn lesser(a: u16, b: u16) -> u16
+pub fn lesser(a: u16, b: u16) -> u16
     ensures { λ r. ⌜ r ≡ min a b ⌝ }
 {
     if a < b { a } else { b }

@@ -6,9 +6,10 @@ ghost use lib.ListN.{length};
 ghost use Rattle.geometry.specs.Words.{corners};
 ghost use Rattle.geometry.specs.inner.Bounds.{BoundedRecord, Bounded};
 ghost use Rattle.seams.specs.inner.Near.{Alone, Near};
-ghost use Rattle.neighbours.specs.inner.Rectangles.{Solid, Reaches, Beyond, Apart, Parted};
+ghost use Rattle.neighbours.specs.inner.Rectangles.{Solid, Reaches, Leaves, Beyond, Apart, Parted, Low, High, Lows, Highs};
 use coordinates::any_past;
 use geometry::greater;
+use geometry::lesser;
 
 // Whether the first three corners of a block record turn left, as they do in every block that question 2 allows.
 fn is_solid(words: &[u16]) -> bool
@@ -35,6 +36,22 @@ fn furthest(words: &[u16], i: usize) -> u16
         k += 1;
     }
     far
+}
+
+// The least coordinate of the corners of a block record.
+fn nearest(words: &[u16], i: usize) -> u16
+    requires { ⌜ (BoundedRecord (now words)) × (i ≤ 2) ⌝ }
+    ensures reach { λ r. ⌜ Leaves (now (words .entry)) i r ⌝ }
+    ensures small { λ r. ⌜ r ≤ 65535 ⌝ }
+{
+    let count = words[0] as usize;
+    let mut near = 65535;
+    let mut j = 0;
+    while j < count {
+        near = lesser(near, words[2 * j + i]);
+        j += 1;
+    }
+    near
 }
 
 // Whether every corner of q lies beyond every corner of p along a coordinate.
@@ -116,6 +133,59 @@ pub fn mark_near(blocks: &[u16], near: &mut [u8])
     let mut p = 0;
     while p < 24 {
         near[p] = mark(blocks, p);
+        p += 1;
+    }
+}
+
+// The least coordinate of a block record that is present and solid. An absent one lies past everything, and one that is not
+// solid has no bound.
+fn low(words: &[u16], i: usize) -> u16
+    requires { ⌜ (BoundedRecord (now words)) × (i ≤ 2) ⌝ }
+    ensures { λ r. ⌜ Low (now (words .entry)) i r ⌝ }
+{
+    if words[0] == 0 {
+        return 65535;
+    }
+    if !is_solid(words) {
+        return 0;
+    }
+    nearest(words, i)
+}
+
+// The greatest one, in the same way.
+fn high(words: &[u16], i: usize) -> u16
+    requires { ⌜ (BoundedRecord (now words)) × (i ≤ 2) ⌝ }
+    ensures { λ r. ⌜ High (now (words .entry)) i r ⌝ }
+{
+    if words[0] == 0 {
+        return 0;
+    }
+    if !is_solid(words) {
+        return 65535;
+    }
+    furthest(words, i)
+}
+
+// The least coordinate of each block.
+pub fn mark_lows(blocks: &[u16], i: usize, lows: &mut [u16])
+    requires { ⌜ (Bounded (now blocks)) × (i ≤ 2) × (length (now lows) ≡ 24) ⌝ }
+    ensures { λ r. ⌜ Lows (now (blocks .entry)) i (now (lows .exit)) ⌝ }
+{
+    let mut p = 0;
+    while p < 24 {
+        lows[p] = low(&blocks[17 * p..17 * p + 17], i);
+        p += 1;
+    }
+}
+
+// The greatest coordinate of each block.
+pub fn mark_highs(blocks: &[u16], i: usize, highs: &mut [u16])
+    requires { ⌜ (Bounded (now blocks)) × (i ≤ 2) × (length (now highs) ≡ 24) ⌝ }
+    ensures { λ r. ⌜ Highs (now (blocks .entry)) i (now (highs .exit)) ⌝ }
+{
+    let mut p = 0;
+    while p < 24 {
+        highs[p] = high(&blocks[17 * p..17 * p + 17], i);
         p += 1;
     }
 }

@@ -11,7 +11,7 @@ use Rattle.lists.proofs.Telling.{tells-yes, tells-no, tells-as}
 use Rattle.geometry.specs.Words.{Point, blockWords}
 use Rattle.seams.specs.Seam.{Shared}
 use Rattle.seams.specs.inner.Near.{Alone}
-use Rattle.seams.specs.inner.Reach.{Touched, Both, Common, Reached, Joined, SharedFrom}
+use Rattle.seams.specs.inner.Reach.{Touched, Both, Common, Reached, Joined, SharedFrom, SharedBy}
 use Rattle.seams.proofs.Rounds.{whole-both}
 use Rattle.seams.proofs.Seams.{Sharing, shared-of, unshared, alone-unshared}
 
@@ -47,6 +47,10 @@ module _ (blocks : List ℕ) (from : ℕ) (a b : Point) (l r p q : ℤ) where
     pub joined-no : 24 ≤ n → Tells (Joined blocks from a b l r p q) false
     joined-no z = tells-no (λ j. m .each (j .k) (j .u) (j .s) (j .after) (omega (arith, j .number)) (j .some) (j .between) (j .touched))
 
+-- no point belongs to a record whose sides leave nothing of the whole segment
+untouched : {ws : List ℕ} {a b : Point} {t : Bool} {l r p q : ℤ} → Reached ws a b (pos 1) (pos 1) (pos 1) (pos 1) t l r p q → t ≡ false → (u s : ℕ) → 1 ≤ u + s → Touched ws a b u s → ⊥
+untouched h e u s w o = true≢false (sym (h .only u s w (whole-both u s) o .0) ∙ e)
+
 module _ (blocks : List ℕ) (a b : Point) where
   -- what the sides of block n leave of the whole segment
   abbrev pub First : ℕ → Bool → ℤ → ℤ → ℤ → ℤ → Type 0
@@ -77,8 +81,23 @@ module _ (blocks : List ℕ) (a b : Point) where
           touched = f .there;
         })
 
+    -- with what the sides of block k leave of that
+    pub by-second : {k : ℕ} {t′ : Bool} {l′ r′ p′ q′ : ℤ} → t ≡ true → Reached (blockWords blocks k) a b l r p q t′ l′ r′ p′ q′ → Tells (SharedBy blocks n k a b) t′
+    unfolding Common
+    by-second e g =
+        record {
+          yes′ = λ x.
+              let c = g .some x in
+              let i = g .all x (c .0) (c .1) (c .2) (c .3) in
+              record { u = c .0; s = c .1; some = c .2; here = h .all e (c .0) (c .1) (c .2) (i .0) .1; there = i .1 };
+          no′ = λ x f. true≢false (sym (g .only (f .u) (f .s) (f .some) (h .only (f .u) (f .s) (f .some) (whole-both (f .u) (f .s)) (f .here) .1) (f .there) .0) ∙ x);
+        }
+
+    pub by-shut : {k : ℕ} → t ≡ false → Tells (SharedBy blocks n k a b) false
+    by-shut e = tells-no (λ f. untouched h e (f .u) (f .s) (f .some) (f .here))
+
     pub from-shut : t ≡ false → Tells (SharedFrom blocks n a b) false
-    from-shut e = tells-no (λ f. true≢false (sym (h .only (f .u) (f .s) (f .some) (whole-both (f .u) (f .s)) (f .here) .0) ∙ e))
+    from-shut e = tells-no (λ f. untouched h e (f .u) (f .s) (f .some) (f .here))
 
   sharing : {n : ℕ} → n < 24 → (f : SharedFrom blocks n a b) → Sharing blocks a b n (f .k) (f .u) (f .s)
   sharing l f = record { some = f .some; first-number = l; second-number = f .number; first = f .here; second = f .there }

@@ -77,7 +77,7 @@ module _ {blocks : List ℕ} {a b : Point} where
         second = touched-of blocks a b (h .q) (h .n) (h .t) (h .within) (h .second);
       }
 
-  turned : {p q u s : ℕ} → Sharing blocks a b p q u s → Sharing blocks a b q p u s
+  pub turned : {p q u s : ℕ} → Sharing blocks a b p q u s → Sharing blocks a b q p u s
   turned h = record { some = h .some; first-number = h .second-number; second-number = h .first-number; first = h .second; second = h .first }
 
   -- none where no block p shares a point with a later one

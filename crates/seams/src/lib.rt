@@ -9,7 +9,7 @@ ghost use Rattle.geometry.specs.inner.Bounds.{BoundedRecord, Bounded, InRange};
 ghost use Rattle.geometry.specs.inner.Sides.{Within};
 ghost use Rattle.seams.specs.Seam.{Shared};
 ghost use Rattle.seams.specs.inner.Near.{Near};
-ghost use Rattle.seams.specs.inner.Reach.{Kept, Tightened, Common, Reached, Joined, SharedFrom};
+ghost use Rattle.seams.specs.inner.Reach.{Kept, Tightened, Common, Reached, Joined, SharedFrom, SharedBy};
 use geometry::Place;
 use geometry::Span;
 use geometry::side;
@@ -154,6 +154,26 @@ fn shared_from(blocks: &[u16], n: usize, a: Place, b: Place) -> bool
     let first = block_reach(blocks, n, whole, a, b);
     if first.open {
         return joined(blocks, n + 1, first.kept, a, b);
+    }
+    false
+}
+
+// Whether some place of the segment from a to b belongs both to block p and to block q.
+pub fn shared_by(blocks: &[u16], p: usize, q: usize, a: Place, b: Place) -> bool
+    requires blocks { ⌜ (Bounded (now blocks)) × (p < 24) × (q < 24) ⌝ }
+    requires ends { ⌜ (InRange (pointOf a)) × (InRange (pointOf b)) ⌝ }
+    ensures { λ t. ⌜ Tells (SharedBy (now (blocks .entry)) p q (pointOf a) (pointOf b)) t ⌝ }
+{
+    let whole = Span {
+        l: 1,
+        r: 1,
+        p: 1,
+        q: 1,
+    };
+    let first = block_reach(blocks, p, whole, a, b);
+    if first.open {
+        let second = block_reach(blocks, q, first.kept, a, b);
+        return second.open;
     }
     false
 }

@@ -1,18 +1,21 @@
 use borrow.Author.Needs.{needs}
 use Prim.Native.Nat.{_-_}
-use native.Mathlib.Omega.{arith}
-use Rattle.neighbours.proofs.Answers.{NearTo, near-next, near-all}
+use Rattle.neighbours.specs.inner.Rectangles.{Listed}
+use Rattle.neighbours.proofs.Answers.{AloneAt, listed-none, listed-next, listed-all, near-all}
 use Rattle.neighbours.proofs.mark_near.Statement.{statement}
 use Rattle.neighbours.proofs.mark_near.Tie as tie
 
 abbrev Inv-loop : tie.InvT-loop
-Inv-loop blocks near₀ p₀ near p = NearTo blocks near p
+Inv-loop blocks near₀ p₀ near p = Listed (AloneAt blocks) near p
 
 abbrev μ-loop : tie.MeasureT-loop
 μ-loop blocks near₀ p₀ near p = 24 - p
 
-loop-holds : tie.Need-loop-holds Inv-loop μ-loop
-loop-holds c = record { sized = c .before .before .pre .1; each = λ k h. omega arith }
+loop-again : tie.Need-loop-again Inv-loop μ-loop
+loop-again c = listed-next (c .before .before .loop .inv) (c .before .loop-test .taken) (c .mark .ensures)
+
+returns : tie.Need-returns Inv-loop μ-loop
+returns c = near-all (listed-all (c .before .loop .inv) (c .loop-test .left))
 
 pub mark-near-spec : {M : Type 1} → statement M
 mark-near-spec =
@@ -20,11 +23,11 @@ mark-near-spec =
     (tie.spec
     Inv-loop
     μ-loop
-    loop-holds
+    (λ c. listed-none (c .before .before .pre .1))
     (λ c κs. search needs)
     (λ c. search needs)
     (λ c. search needs)
     (λ c. search needs)
-    (λ c. search near-next)
+    loop-again
     (λ c. search needs)
-    (λ c. search near-all))
+    returns)

@@ -84,3 +84,11 @@ pub record SharedFrom (blocks : List ℕ) (n : ℕ) (a b : Point) : Type 0 where
   pub some : 1 ≤ u + s
   pub here : Touched (blockWords blocks n) a b u s
   pub there : Touched (blockWords blocks k) a b u s
+
+-- some point of the segment belongs both to block p and to block q
+pub record SharedBy (blocks : List ℕ) (p q : ℕ) (a b : Point) : Type 0 where
+  pub u : ℕ
+  pub s : ℕ
+  pub some : 1 ≤ u + s
+  pub here : Touched (blockWords blocks p) a b u s
+  pub there : Touched (blockWords blocks q) a b u s
