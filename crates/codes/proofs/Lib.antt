@@ -1,0 +1,10 @@
+pub mod Crosses
+pub mod Signs
+pub mod Rounds
+pub mod Cone
+pub mod Bytes
+pub mod Coding
+pub mod Coded
+pub mod Hiding
+pub mod Uprights
+pub mod Passing
