@@ -69,13 +69,13 @@ pub place-is-in-range : (R : Records) (i : ℕ) (a : Point) → Fit R → i < 24
 place-is-in-range R i a f h e = rw e (place-in-range R i f h)
 
 module _ (R : Records) (i j : ℕ) where
-  absent-high : (there : Bool) (p : Point) → MarkIs R j there p → there ≡ false → bothPresent R i j ≡ false
+  pub absent-high : (there : Bool) (p : Point) → MarkIs R j there p → there ≡ false → bothPresent R i j ≡ false
   absent-high there p m e = rw (sym (m .presence) ∙ e) (and-false (present R i))
 
-  absent-low : (t : Bool) → t ≡ present R i → t ≡ false → bothPresent R i j ≡ false
+  pub absent-low : (t : Bool) → t ≡ present R i → t ≡ false → bothPresent R i j ≡ false
   absent-low t g e = rw (sym g ∙ e)
 
-  there-both : (t there : Bool) (p : Point) → MarkIs R j there p → there ≡ true → t ≡ present R i → t ≡ true → bothPresent R i j ≡ true
+  pub there-both : (t there : Bool) (p : Point) → MarkIs R j there p → there ≡ true → t ≡ present R i → t ≡ true → bothPresent R i j ≡ true
   there-both t there p m e g h = rw (sym g ∙ h, sym (m .presence) ∙ e)
 
   -- the ways to a fresh byte
@@ -91,68 +91,3 @@ module _ (R : Records) (i j : ℕ) where
   fresh-straight t there a b byte m e g h q (between f o) = seam (there-both t there b m e g h) (rw (q, m .place) at f) o
   fresh-straight t there a b byte m e g h q (lowest l x f) =
       hidden (there-both t there b m e g h) l (rw (q, m .place) at x) (λ k s y. f k s (rw (q, m .place) y))
-
-  -- an edit of block n
-  module _ (n old : ℕ) where
-    pub pair-fresh : (t : Bool) (byte : ℕ) → Tells (Afresh n i j old) t → t ≡ true → PairIs R i j byte → BlockPair R n i j old byte
-    pair-fresh t byte f e p =
-        record { fresh = λ q. p; covered = λ x. absurd (x (f .yes′ e)); kept = λ x. absurd (x (f .yes′ e)) }
-
-    module _ (t : Bool) (f : Tells (Afresh n i j old) t) (e : t ≡ false) where
-      keeps : (bothPresent R i j ≡ true → n < old → Hides R n i j → ⊥) → BlockPair R n i j old old
-      keeps h = record { fresh = λ q. absurd (f .no′ e q); covered = λ x z l g. absurd (h z l g); kept = λ x g. refl }
-
-      pub pair-lower : old < n → BlockPair R n i j old old
-      pair-lower l = keeps (λ z (m : n < old) h. omega arith)
-
-      pub pair-high : (there : Bool) (p : Point) → MarkIs R j there p → there ≡ false → BlockPair R n i j old old
-      pair-high there p m d = keeps (λ z l h. true≢false (sym z ∙ absent-high there p m d))
-
-      pub pair-low : (s : Bool) → s ≡ present R i → s ≡ false → BlockPair R n i j old old
-      pair-low s g d = keeps (λ z l h. true≢false (sym z ∙ absent-low s g d))
-
-      pub pair-missed : (there s : Bool) (a b : Point) → MarkIs R j there b → a ≡ placeOf R i → Tells (Hidden (R .blocks) n a b) s → s ≡ false → BlockPair R n i j old old
-      pair-missed there s a b m q x d = keeps (λ z l h. x .no′ d (rw (q, m .place) h))
-
-      pub pair-covered : (there u s : Bool) (a b : Point) → MarkIs R j there b → there ≡ true → u ≡ present R i → u ≡ true → a ≡ placeOf R i → n ≤ old
-          → Tells (Hidden (R .blocks) n a b) s → s ≡ true → BlockPair R n i j old n
-      pair-covered there u s a b m te g ue q l x d =
-          record {
-            fresh = λ r. absurd (f .no′ e r);
-            covered = λ v z k h. refl;
-            kept = λ v h. absurd (h (there-both u there b m te g ue) (above (ℕ-discrete old n)) (rw (q, m .place) at (x .yes′ d)));
-          }
-        where
-          above : Dec (old ≡ n) → n < old
-          above (yes o) = absurd (f .no′ e (inl (inr o)))
-          above (no o) = omega arith
-
--- which block a mark is on
-pub on-is : (n i : ℕ) → i / 8 ≡ n → OnBlock n i
-on-is n i e = (omega arith, omega arith)
-
-pub off-is : (n i : ℕ) → (i / 8 ≡ n → ⊥) → OnBlock n i → ⊥
-off-is n i d h = d (omega (arith, h .0, h .1))
-
-module _ (n i j old : ℕ) where
-  pub asks-low : i / 8 ≡ n → Tells (Afresh n i j old) true
-  asks-low e = tells-yes (inl (inl (inl (on-is n i e))))
-
-  pub asks-high : j / 8 ≡ n → Tells (Afresh n i j old) true
-  asks-high e = tells-yes (inl (inl (inr (on-is n j e))))
-
-  pub asks-own : old ≡ n → Tells (Afresh n i j old) true
-  asks-own e = tells-yes (inl (inr e))
-
-  pub asks-seam : old ≡ 253 → Tells (Afresh n i j old) true
-  asks-seam e = tells-yes (inr (inl e))
-
-  pub asks-clear : (i / 8 ≡ n → ⊥) → (j / 8 ≡ n → ⊥) → (old ≡ n → ⊥) → (old ≡ 253 → ⊥) → Tells (Afresh n i j old) (eqb old 254)
-  asks-clear a b c d = record { yes′ = λ t. inr (inr (eqb-true old 254 t)); no′ = λ t. none t }
-    where
-      none : eqb old 254 ≡ false → Afresh n i j old → ⊥
-      none t (inl (inl (inl h))) = off-is n i a h
-      none t (inl (inl (inr h))) = off-is n j b h
-      none t (inl (inr h)) = c h
-      none t (inr (inl h)) = d h
-      none t (inr (inr h)) = eqb-false old 254 t h

@@ -1,13 +1,12 @@
-// The byte of two marks, as the stored records require it and as an edit leaves it.
-ghost use Prim.Native.Nat.{_+_, _<_};
+// The byte of two marks, as the stored records require it.
+ghost use Prim.Native.Nat.{_<_};
 ghost use Rattle.geometry.specs.Words.{pointOf};
 ghost use Rattle.geometry.specs.inner.Bounds.{Bounded, InRange};
 ghost use Rattle.seams.specs.inner.Near.{Near};
 ghost use Rattle.tables.specs.Tables.{stored};
 ghost use Rattle.tables.specs.inner.Fit.{Fit};
-ghost use Rattle.geometry.specs.Obstruction.{Hidden};
 ghost use Rattle.lists.specs.inner.Tells.{Tells};
-ghost use Rattle.visibility.specs.Visibility.{Unhidden, Clear, PairIs, Afresh, BlockPair};
+ghost use Rattle.visibility.specs.Visibility.{Unhidden, Clear, PairIs};
 ghost use Rattle.visibility.specs.inner.Bytes.{StraightIs, MarkIs};
 use geometry::Hider;
 use geometry::Place;
@@ -16,7 +15,7 @@ use tables::is_present;
 use tables::place_of;
 
 // The byte of a straight that no block hides.
-fn unhidden_byte(blocks: &[u16], near: &[u8], a: Place, b: Place) -> u8
+pub fn unhidden_byte(blocks: &[u16], near: &[u8], a: Place, b: Place) -> u8
     requires blocks { ⌜ (Bounded (now blocks)) × (Near (now blocks) (now near)) ⌝ }
     requires ends { ⌜ (InRange (pointOf a)) × (InRange (pointOf b)) × (Unhidden (now blocks) (pointOf a) (pointOf b)) ⌝ }
     ensures { λ r. ⌜ StraightIs (now (blocks .entry)) (pointOf a) (pointOf b) r ⌝ }
@@ -36,17 +35,6 @@ fn straight_byte(blocks: &[u16], near: &[u8], a: Place, b: Place) -> u8
     match lowest_hider(blocks, 0, 24, a, b) {
         Hider::At(n) => n as u8,
         Hider::Nothing => unhidden_byte(blocks, near, a, b),
-    }
-}
-
-// Whether block n hides the straight from a to b.
-fn hides(blocks: &[u16], n: usize, a: Place, b: Place) -> bool
-    requires { ⌜ (Bounded (now blocks)) × (n < 24) × (InRange (pointOf a)) × (InRange (pointOf b)) ⌝ }
-    ensures { λ r. ⌜ Tells (Hidden (now (blocks .entry)) n (pointOf a) (pointOf b)) r ⌝ }
-{
-    match lowest_hider(blocks, n, n + 1, a, b) {
-        Hider::At(k) => true,
-        Hider::Nothing => false,
     }
 }
 
@@ -99,57 +87,4 @@ pub fn fresh_byte(blocks: &[u16], runs: &[u16], near: &[u8], i: usize, j: usize)
     let there = is_present(blocks, runs, j);
     let b = place_of(blocks, runs, j);
     byte_with(blocks, runs, near, i, j, there, b)
-}
-
-// Whether the pair is worked out afresh after an edit of block n: it is on the block's marks, or its byte was n, 253 or 254.
-fn asks_fresh(n: usize, i: usize, j: usize, old: u8) -> bool
-    ensures { λ r. ⌜ Tells (Afresh n i j old) r ⌝ }
-{
-    if i / 8 == n {
-        return true;
-    }
-    if j / 8 == n {
-        return true;
-    }
-    if old as usize == n {
-        return true;
-    }
-    if old == 253 {
-        return true;
-    }
-    old == 254
-}
-
-// The byte of marks i and j after an edit of block n; mark j is known.
-pub fn block_byte(
-    blocks: &[u16],
-    runs: &[u16],
-    near: &[u8],
-    n: usize,
-    i: usize,
-    j: usize,
-    there: bool,
-    b: Place,
-    old: u8,
-) -> u8
-    requires { ⌜ (Fit (stored (now blocks) (now runs))) × (Near (now blocks) (now near)) × (n < 24) × (i < 240) × (j < 240) × (MarkIs (stored (now blocks) (now runs)) j there (pointOf b)) ⌝ }
-    ensures { λ r. ⌜ BlockPair (stored (now (blocks .entry)) (now (runs .entry))) n i j old r ⌝ }
-{
-    if asks_fresh(n, i, j, old) {
-        return byte_with(blocks, runs, near, i, j, there, b);
-    }
-    if (old as usize) < n {
-        return old;
-    }
-    if !there {
-        return old;
-    }
-    if !is_present(blocks, runs, i) {
-        return old;
-    }
-    let a = place_of(blocks, runs, i);
-    if hides(blocks, n, a, b) {
-        return n as u8;
-    }
-    old
 }

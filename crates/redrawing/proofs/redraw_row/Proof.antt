@@ -7,10 +7,10 @@ use Rattle.redrawing.proofs.redraw_row.Statement.{statement}
 use Rattle.redrawing.proofs.redraw_row.Tie as tie
 
 abbrev Inv-loop : tie.InvT-loop
-Inv-loop blocks runs near row₀ j n there b i₀ row i = (i ≤ j) × RowUpto (stored blocks runs) n j row₀ row i
+Inv-loop blocks runs codes masks lines alone row₀ j n there b i₀ row i = (i ≤ j) × RowUpto (stored blocks runs) n j row₀ row i
 
 abbrev μ-loop : tie.MeasureT-loop
-μ-loop blocks runs near row₀ j n there b i₀ row i = j - i
+μ-loop blocks runs codes masks lines alone row₀ j n there b i₀ row i = j - i
 
 loop-holds : tie.Need-loop-holds Inv-loop μ-loop
 loop-holds c = (omega arith, search row-none)

@@ -1,6 +1,6 @@
-use Rattle.visibility.proofs.Bytes.{asks-low, asks-high, asks-own, asks-seam, asks-clear}
-use Rattle.visibility.proofs.asks_fresh.Statement.{statement}
-use Rattle.visibility.proofs.asks_fresh.Tie as tie
+use Rattle.block_bytes.proofs.Edited.{asks-low, asks-high, asks-own, asks-seam, asks-clear}
+use Rattle.block_bytes.proofs.asks_fresh.Statement.{statement}
+use Rattle.block_bytes.proofs.asks_fresh.Tie as tie
 
 pub asks-fresh-spec : {M : Type 1} → statement M
 asks-fresh-spec =
