@@ -18,6 +18,7 @@ use Rattle.book.proofs.Questions.{Sized, sized-of, first-yes}
 -- what an accepted edit knows of the tables
 pub record Ready (T : Tables) : Type 0 where
   pub sized : Sized T
+  pub right : recordsRight (records T) ≡ true
   pub fit : Fit (records T)
 
 module _ (T : Tables) (e : Edit) (v : ℕ) (f : v ≡ answerOver T e) where
@@ -38,7 +39,7 @@ module _ (T : Tables) (e : Edit) (v : ℕ) (f : v ≡ answerOver T e) where
     pub ready : Ready T
     ready =
         let s = sized-of T (granted .0) in
-        record { sized = s; fit = records-fit (records T) (s .blocks) (s .runs) (granted .1) }
+        record { sized = s; right = granted .1; fit = records-fit (records T) (s .blocks) (s .runs) (granted .1) }
 
     pub done : (T′ : Tables) → Edited (target e) T (written (bookOf (records T)) e) T′ → Called e T 0 T′
     done T′ b = record { answer = sym z ∙ f; refused = λ q. absurd (q refl); done = λ q. b }

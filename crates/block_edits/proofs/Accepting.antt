@@ -2,10 +2,11 @@
 use mathlib.Core.Path.{_≡_, refl}
 use mathlib.Core.List.{List, [], map}
 use mathlib.Core.Bool.{true}
+use mathlib.Core.Logic.{_⊎_, inl, inr}
 use Prim.Native.Nat.{ℕ, _+_, _*_, _-_, _<_, _≤_}
 use native.Mathlib.Omega.{arith}
 use lib.IntN.{ℤ}
-use lib.ListN.{length, take, drop, replicate, length-map}
+use lib.ListN.{length, take, drop, replicate}
 use borrow.Author.Tests.{ltb-true}
 use Rattle.lists.specs.Lists.{all}
 use Rattle.geometry.specs.Words.{Point, word, blockWords, corners}
@@ -13,23 +14,53 @@ use Rattle.geometry.specs.inner.Bounds.{BoundedRecord}
 use Rattle.geometry.proofs.Searching.{part-is, record-bounded as record-bounded-at}
 use Rattle.tables.specs.Tables.{Tables, records}
 use Rattle.tables.specs.Written.{blockRecord}
-use Rattle.tables.proofs.Splices.{blockRecord-none, places-length, block-first}
-use Rattle.records.specs.Questions.{countRight, placeRight, shiftRight, shifted, lentPlaces}
-use Rattle.records.proofs.Places.{StandingCorners, new-standing, corners-bounded}
-use Rattle.moves.proofs.Standing.{shifted-right}
+use Rattle.tables.proofs.Splices.{blockRecord-none, blockRecord-length}
+use Rattle.records.specs.Questions.{countRight, shiftRight, shifted, lentPlaces, zeroFrom, blockRight}
+use Rattle.records.proofs.Loops.{zero-word}
+use Rattle.records.proofs.Fits.{StandingRecord, block-cases, block-fit, block-allowed}
+use Rattle.records.proofs.Places.{StandingCorners, BlockPlace, vacant, standing, new-standing, place-convex, block-small, block-right, block-place}
+use Rattle.moves.proofs.Standing.{shifted-place}
+use Rattle.codes.specs.inner.Codes.{RightRecord, Upright}
 use Rattle.book.specs.Book.{addBlock, removeBlock, moveBlock, questions, written}
 use Rattle.book.specs.Edits.{answerOver, BlockEdited, Called}
 use Rattle.book.proofs.Questions.{first-yes}
 use Rattle.book.proofs.Stored.{book-block}
 use Rattle.answers.proofs.Accepting.{Ready, own, ready, done}
 
+-- a record that question 2 allows is one that the coded test may be asked of
+block-upright : (ws : List ℕ) → length ws ≡ 17 → blockRight ws ≡ true → RightRecord ws
+block-upright ws l h = record { bounded = block-fit ws l h; many = go (block-cases ws h); round = place-convex (corners ws) (block-place ws h) }
+  where
+    go : (zeroFrom ws 0 ≡ true) ⊎ StandingRecord ws → 0 < word ws 0 → 3 ≤ word ws 0
+    go (inl z) m = absurd (omega (arith, zero-word ws 0 0 z (omega arith) (omega arith)))
+    go (inr s) m = s .low
+
+pub none-right : RightRecord (replicate 17 0)
+none-right = rw (← blockRecord-none) (block-upright (blockRecord []) (blockRecord-length [] (omega arith)) (block-right [] vacant))
+
+records-upright : (T : Tables) → Ready T → Upright (records T)
+records-upright T r =
+    record {
+      fit = r .fit;
+      each = λ n h.
+          block-upright (blockWords (T .blocks) n) (record-bounded-at (T .blocks) n (r .fit .blocks) h .sized)
+          (block-allowed (records T) (r .sized .blocks) (r .sized .runs) (r .right) n h);
+    }
+
 pub record BlockReady (T : Tables) (n : ℕ) (ps : List Point) : Type 0 where
   pub ready : Ready T
+  pub upright : Upright (records T)
   pub below : n < 24
-  pub bounded : (ws : List ℕ) → ws ≡ blockRecord ps → BoundedRecord ws
+  pub right : (ws : List ℕ) → ws ≡ blockRecord ps → RightRecord ws
 
-block-ready : (T : Tables) (n : ℕ) (ps : List Point) → Ready T → n < 24 → length ps ≤ 8 → all placeRight ps ≡ true → BlockReady T n ps
-block-ready T n ps r h l a = record { ready = r; below = h; bounded = λ ws e. rw e (corners-bounded ps l a) }
+block-ready : (T : Tables) (n : ℕ) (ps : List Point) → Ready T → n < 24 → BlockPlace ps → BlockReady T n ps
+block-ready T n ps r h p =
+    record {
+      ready = r;
+      upright = records-upright T r;
+      below = h;
+      right = λ ws e. rw e (block-upright (blockRecord ps) (blockRecord-length ps (block-small ps p)) (block-right ps p));
+    }
 
 module _ (T : Tables) (n v : ℕ) (ws : List ℕ) (f : v ≡ answerOver T (addBlock n ws)) (z : v ≡ 0) where
   add-parts : (n < 24) × (countRight ws ≡ true) × StandingCorners (lentPlaces ws)
@@ -46,7 +77,7 @@ module _ (T : Tables) (n v : ℕ) (ws : List ℕ) (f : v ≡ answerOver T (addBl
   add-count = add-parts .1
 
   pub add-ready : BlockReady T n (lentPlaces ws)
-  add-ready = let a = add-parts in block-ready T n (lentPlaces ws) (ready T _ v f z) (a .0) (a .2 .high) (a .2 .right)
+  add-ready = let a = add-parts in block-ready T n (lentPlaces ws) (ready T _ v f z) (a .0) (standing (a .2))
 
   pub add-done : (rec : List ℕ) (T′ : Tables) → rec ≡ blockRecord (lentPlaces ws) → BlockEdited T n rec T′ → Called (addBlock n ws) T 0 T′
   unfolding written
@@ -54,10 +85,10 @@ module _ (T : Tables) (n v : ℕ) (ws : List ℕ) (f : v ≡ answerOver T (addBl
 
 module _ (T : Tables) (n v : ℕ) (f : v ≡ answerOver T (removeBlock n)) (z : v ≡ 0) where
   pub remove-ready : BlockReady T n []
-  unfolding questions all
+  unfolding questions
   remove-ready =
       let q₃ = first-yes 2 _ _ (own T (removeBlock n) v f z) in
-      block-ready T n [] (ready T _ v f z) (ltb-true n 24 (q₃ .0)) (omega arith) refl
+      block-ready T n [] (ready T _ v f z) (ltb-true n 24 (q₃ .0)) vacant
 
   pub remove-done : (T′ : Tables) → BlockEdited T n (replicate 17 0) T′ → Called (removeBlock n) T 0 T′
   unfolding written
@@ -78,16 +109,15 @@ module _ (T : Tables) (n v : ℕ) (de dn : ℤ) (f : v ≡ answerOver T (moveBlo
   pub move-ready : BlockReady T n (map (shifted de dn) (corners (blockWords (T .blocks) n)))
   move-ready =
       let r = ready T _ v f z in
-      let c = r .fit .blocks .counts n move-below in
+      let a = block-allowed (records T) (r .sized .blocks) (r .sized .runs) (r .right) n move-below in
       block-ready T n (map (shifted de dn) (corners (blockWords (T .blocks) n))) r move-below
-      (rw (length-map (corners (blockWords (T .blocks) n)) (shifted de dn), places-length (blockWords (T .blocks) n) 1 (word (blockWords (T .blocks) n) 0), block-first (T .blocks) n) c)
-      (shifted-right de dn (corners (blockWords (T .blocks) n)) move-right)
+      (shifted-place de dn (corners (blockWords (T .blocks) n)) (block-place (blockWords (T .blocks) n) a) move-right)
 
   pub move-in : 17 * n + 17 ≤ length (T .blocks)
   move-in = omega (arith, move-ready .ready .sized .blocks, move-below)
 
-  pub move-bounded : (rec : List ℕ) → rec ≡ blockRecord (map (shifted de dn) (corners (take (17 * n + 17 - 17 * n) (drop (17 * n) (T .blocks))))) → BoundedRecord rec
-  move-bounded rec e = move-ready .bounded rec (rw (part-is (T .blocks) n) at e)
+  pub move-upright : (rec : List ℕ) → rec ≡ blockRecord (map (shifted de dn) (corners (take (17 * n + 17 - 17 * n) (drop (17 * n) (T .blocks))))) → RightRecord rec
+  move-upright rec e = move-ready .right rec (rw (part-is (T .blocks) n) at e)
 
   pub move-asks : (BoundedRecord (take (17 * n + 17 - 17 * n) (drop (17 * n) (T .blocks))))
       × (all (shiftRight de dn) (corners (take (17 * n + 17 - 17 * n) (drop (17 * n) (T .blocks)))) ≡ true)

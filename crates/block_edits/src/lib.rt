@@ -2,10 +2,9 @@
 // Each answers the number of the first question that is answered no, and then changes no table; 0 means done.
 ghost use mathlib.Core.Path.{_≡_};
 ghost use Prim.Native.Nat.{_<_};
-ghost use lib.ListN.{length};
-ghost use Rattle.geometry.specs.inner.Bounds.{BoundedRecord};
+ghost use lib.ListN.{length, replicate};
 ghost use Rattle.tables.specs.Tables.{tables, stored};
-ghost use Rattle.tables.specs.inner.Fit.{Fit};
+ghost use Rattle.codes.specs.inner.Codes.{RightRecord, Upright};
 ghost use Rattle.book.specs.Book.{addBlock, removeBlock, moveBlock};
 ghost use Rattle.book.specs.Edits.{BlockEdited, Called};
 use answers::add_block_answer;
@@ -28,13 +27,35 @@ fn replace_block(
     n: usize,
     words: &[u16],
 )
-    requires fit { ⌜ (Fit (stored (now blocks) (now runs))) × (BoundedRecord (now words)) × (n < 24) ⌝ }
+    requires upright { ⌜ (Upright (stored (now blocks) (now runs))) × (RightRecord (now words)) × (n < 24) ⌝ }
     requires sizes { ⌜ (length (now pairs) ≡ 28680) × (length (now routes) ≡ 4728) × (length (now totals) ≡ 25) ⌝ }
     ensures { λ r. ⌜ BlockEdited (tables (now (blocks .entry)) (now (runs .entry)) (now (pairs .entry)) (now (routes .entry)) (now (totals .entry)))
         n (now (words .entry)) (tables (now (blocks .exit)) (now (runs .entry)) (now (pairs .exit)) (now (routes .exit)) (now (totals .exit))) ⌝ }
 {
     put_words(blocks, 17 * n, words);
     redraw_block(blocks, runs, pairs, n);
+    all_routes(blocks, runs, pairs, routes);
+    write_totals(pairs, routes, totals);
+}
+
+// Block k's record is cleared; pairs, routes and totals follow. It has the redrawing called from two places, so that what
+// that needs of stack is not part of the frame in which the routes are made.
+fn erase_block(
+    blocks: &mut [u16],
+    runs: &[u16],
+    pairs: &mut [u8],
+    routes: &mut [u32],
+    totals: &mut [u32],
+    k: usize,
+)
+    requires upright { ⌜ (Upright (stored (now blocks) (now runs))) × (k < 24) ⌝ }
+    requires sizes { ⌜ (length (now pairs) ≡ 28680) × (length (now routes) ≡ 4728) × (length (now totals) ≡ 25) ⌝ }
+    ensures { λ r. ⌜ BlockEdited (tables (now (blocks .entry)) (now (runs .entry)) (now (pairs .entry)) (now (routes .entry)) (now (totals .entry)))
+        k (replicate 17 0) (tables (now (blocks .exit)) (now (runs .entry)) (now (pairs .exit)) (now (routes .exit)) (now (totals .exit))) ⌝ }
+{
+    let words = [0u16; 17];
+    put_words(blocks, 17 * k, &words);
+    redraw_block(blocks, runs, pairs, k);
     all_routes(blocks, runs, pairs, routes);
     write_totals(pairs, routes, totals);
 }
@@ -78,8 +99,7 @@ pub fn remove_block(
     if v != 0 {
         return v;
     }
-    let words = [0u16; 17];
-    replace_block(blocks, runs, pairs, routes, totals, number as usize, &words);
+    erase_block(blocks, runs, pairs, routes, totals, number as usize);
     0
 }
 

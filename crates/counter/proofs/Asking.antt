@@ -7,22 +7,15 @@ use native.Mathlib.Omega.{arith}
 use lib.Dec.{eqb, ltb}
 use lib.ListN.{length}
 use borrow.Author.Tests.{eq-eqb, ne-eqb, lt-ltb, le-ltb, not-true, not-false, eqb-true, ltb-true}
-use Rattle.lists.specs.Lists.{allBelow}
-use Rattle.geometry.specs.Words.{Point, word, blockWords, corners}
-use Rattle.geometry.specs.Convexity.{convex}
+use Rattle.geometry.specs.Words.{word, blockWords, corners}
 use Rattle.tables.specs.Tables.{Records, stored}
 use Rattle.records.specs.Questions.{recordsRight}
 use Rattle.records.proofs.Fits.{records-fit, block-allowed}
-use Rattle.records.proofs.Places.{BlockPlace, vacant, standing, block-place}
+use Rattle.records.proofs.Places.{place-convex, block-place}
 use Rattle.book.specs.Questions.{firstNo, numberRight}
 use Rattle.book.proofs.Questions.{first-yes}
 use Rattle.sight.specs.inner.Sight.{Sound}
 use Rattle.counter.specs.Quote.{quoteLengths, quoteAnswer}
-
-place-convex : (ps : List Point) → BlockPlace ps → convex ps ≡ true
-unfolding convex allBelow
-place-convex ps vacant = refl
-place-convex ps (standing s) = s .turns
 
 -- records that question 2 allows are what the test of a straight asks
 pub records-sound : (R : Records) → length (R .blocks) ≡ 408 → length (R .runs) ≡ 121 → recordsRight R ≡ true → Sound R

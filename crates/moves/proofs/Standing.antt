@@ -10,7 +10,7 @@ use Rattle.lists.proofs.Every.{both, and-yes, every-at}
 use Rattle.geometry.specs.Words.{Point, point}
 use Rattle.geometry.proofs.Translations.{Moved, convex-moved}
 use Rattle.records.specs.Questions.{placeRight, shiftRight, shifted}
-use Rattle.records.proofs.Places.{StandingCorners}
+use Rattle.records.proofs.Places.{StandingCorners, BlockPlace, vacant, standing}
 use Rattle.moves.proofs.Shifting.{lands-natural, lands-small}
 
 module _ (de dn : ℤ) where
@@ -37,3 +37,7 @@ module _ (de dn : ℤ) where
         right = shifted-right ps h;
         turns = convex-moved de dn (shifted de dn) ps (λ k l. shift-moved _ (every-at (shiftRight de dn) ps k (point 0 0) h l) .0) ∙ f .turns;
       }
+
+  pub shifted-place : (ps : List Point) → BlockPlace ps → all (shiftRight de dn) ps ≡ true → BlockPlace (map (shifted de dn) ps)
+  shifted-place ps vacant h = vacant
+  shifted-place ps (standing f) h = standing (shifted-standing ps f h)

@@ -10,7 +10,7 @@ use lib.Dec.{leb, eqb}
 use lib.ListN.{length, drop, replicate, List·getD-eq-default}
 use lib.Seq.{drop-at, ext-getD}
 use borrow.Author.Tests.{leb-true, le-leb}
-use Rattle.lists.specs.Lists.{all}
+use Rattle.lists.specs.Lists.{all, allBelow}
 use Rattle.lists.proofs.Every.{both, and-yes, every-read, every-append, every-replicate}
 use Rattle.geometry.specs.Words.{Point, word, placeAt, placesFrom, corners}
 use Rattle.geometry.specs.Convexity.{convex}
@@ -44,6 +44,11 @@ pub data RunPlace : List Point → Type 0 where
 pub block-small : (ps : List Point) → BlockPlace ps → length ps ≤ 8
 block-small ps vacant = omega arith
 block-small ps (standing f) = f .high
+
+pub place-convex : (ps : List Point) → BlockPlace ps → convex ps ≡ true
+unfolding convex allBelow
+place-convex ps vacant = refl
+place-convex ps (standing s) = s .turns
 
 pub run-full : (ps : List Point) → RunPlace ps → length (runRecord ps) ≡ 5
 unfolding runRecord placeWords

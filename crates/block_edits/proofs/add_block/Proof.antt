@@ -8,7 +8,7 @@ replace-block-requires : tie.Need-replace-block-requires
 replace-block-requires c κs =
     let w = c .before .before .before .before .before .before in
     let g = add-ready _ _ _ _ (w .before .before .add-block-answer .ensures) (w .before .if1 .left) in
-    ((g .ready .fit, g .bounded _ (w .new-record .ensures), g .below), (g .ready .sized .pairs, g .ready .sized .routes, g .ready .sized .totals))
+    ((g .upright, g .right _ (w .new-record .ensures), g .below), (g .ready .sized .pairs, g .ready .sized .routes, g .ready .sized .totals))
 
 returns-2 : tie.Need-returns-2
 returns-2 c =

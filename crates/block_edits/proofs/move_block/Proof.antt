@@ -1,6 +1,6 @@
 use borrow.Author.Needs.{needs}
 use Rattle.answers.proofs.Accepting.{refused, plain-move}
-use Rattle.block_edits.proofs.Accepting.{move-in, move-asks, move-ready, move-bounded, move-done}
+use Rattle.block_edits.proofs.Accepting.{move-in, move-asks, move-ready, move-upright, move-done}
 use Rattle.block_edits.proofs.move_block.Statement.{statement}
 use Rattle.block_edits.proofs.move_block.Tie as tie
 
@@ -23,7 +23,7 @@ replace-block-requires c κs =
     let w = c .before .before .before .before .before .before in
     let e = w .before .before .before in
     let g = move-ready _ _ _ _ _ (e .before .move-block-answer .ensures) (e .if1 .left) in (
-      (g .ready .fit, move-bounded _ _ _ _ _ (e .before .move-block-answer .ensures) (e .if1 .left) _ (w .moved-record .ensures), g .below),
+      (g .upright, move-upright _ _ _ _ _ (e .before .move-block-answer .ensures) (e .if1 .left) _ (w .moved-record .ensures), g .below),
       (g .ready .sized .pairs, g .ready .sized .routes, g .ready .sized .totals),
     )
 

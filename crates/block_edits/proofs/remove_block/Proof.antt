@@ -1,22 +1,20 @@
-use mathlib.Core.Path.{sym}
-use Rattle.tables.proofs.Splices.{blockRecord-none}
 use borrow.Author.Needs.{needs}
 use Rattle.answers.proofs.Accepting.{refused}
 use Rattle.block_edits.proofs.Accepting.{remove-ready, remove-done}
 use Rattle.block_edits.proofs.remove_block.Statement.{statement}
 use Rattle.block_edits.proofs.remove_block.Tie as tie
 
-replace-block-requires : tie.Need-replace-block-requires
-replace-block-requires c κs =
-    let e = c .before .before .before .before .before .before in
+erase-block-requires : tie.Need-erase-block-requires
+erase-block-requires c κs =
+    let e = c .before .before .before .before .before in
     let g = remove-ready _ _ _ (e .before .remove-block-answer .ensures) (e .if1 .left) in
-    ((g .ready .fit, g .bounded _ (sym blockRecord-none), g .below), (g .ready .sized .pairs, g .ready .sized .routes, g .ready .sized .totals))
+    ((g .upright, g .below), (g .ready .sized .pairs, g .ready .sized .routes, g .ready .sized .totals))
 
 returns-2 : tie.Need-returns-2
 returns-2 c =
     let d = c .before .before .before .before .before .before .before .before in
-    let e = d .before .before .before .before .before .before .before in
-    remove-done _ _ _ (e .before .remove-block-answer .ensures) (e .if1 .left) _ (d .replace-block .ensures)
+    let e = d .before .before .before .before .before .before in
+    remove-done _ _ _ (e .before .remove-block-answer .ensures) (e .if1 .left) _ (d .erase-block .ensures)
 
 pub remove-block-spec : {M : Type 1} → statement M
 remove-block-spec =
@@ -29,8 +27,7 @@ remove-block-spec =
     (λ c. search needs)
     (λ c. search needs)
     (λ c. search refused)
-    (λ c. search needs)
-    replace-block-requires
+    erase-block-requires
     (λ c. search needs)
     (λ c. search needs)
     (λ c. search needs)
