@@ -247,29 +247,32 @@ fn show(v: Option<f64>, digits: usize) -> String {
 fn print_table(counts: &Counts) {
     println!("One drag step with 24 runs. Time: ours in microseconds, the others as multiples of ours in the same run (least of {ROUNDS} drags of {STEPS}");
     println!("steps, Graphviz {GRAPHVIZ_ROUNDS} of {GRAPHVIZ_STEPS}). Instructions: thousands, by callgrind inside the call. Plain: the same algorithm in safe Rust.");
-    println!("Redraw: the plain one drawing all pairs and routes from nothing. Graphviz: Pobsopen and a Pobspath for each run, disjoint blocks and plain lengths only.");
+    println!("Ratio: ours to plain. Redraw: the plain one drawing all pairs and routes from nothing. Graphviz: Pobsopen and a Pobspath for each run, disjoint blocks");
+    println!("and plain lengths only. Pairs: their redrawing; where that is no call of its own, all but routes and totals.");
     println!();
-    println!("{:<13} {:>6} |{:^34}|{:^61}", "", "", "time", "instructions");
+    println!("{:<13} {:>6} |{:^34}|{:^67}", "", "", "time", "instructions");
     println!(
-        "{:<13} {:>6} |{:>8} {:>7} {:>7} {:>9}|{:>8} {:>8} {:>8} {:>6} {:>8} {:>8} {:>9}",
-        "yard", "blocks", "ours", "plain", "redraw", "Graphviz", "ours", "pairs", "routes", "totals", "plain", "redraw", "Graphviz"
+        "{:<13} {:>6} |{:>8} {:>7} {:>7} {:>9}|{:>8} {:>8} {:>8} {:>6} {:>8} {:>5} {:>8} {:>9}",
+        "yard", "blocks", "ours", "plain", "redraw", "Graphviz", "ours", "pairs", "routes", "totals", "plain", "ratio", "redraw", "Graphviz"
     );
     for g in &YARDS {
         let [ours, plain, nothing] = times(g);
-        let (count, routes, totals) = (counts.of("proved", g), counts.of("routes", g), counts.of("totals", g));
+        let (count, routes, totals, plainly) = (counts.of("proved", g), counts.of("routes", g), counts.of("totals", g), counts.of("plain", g));
+        let rest = count.zip(routes).map(|(a, b)| a - b - totals.unwrap_or(0.0));
         let thousands = |v: Option<f64>| show(v.map(|v| v / 1000.0), 0);
         println!(
-            "{:<13} {:>6} |{ours:>8.0} {:>7.2} {:>7.2} {:>9}|{:>8} {:>8} {:>8} {:>6} {:>8} {:>8} {:>9}",
+            "{:<13} {:>6} |{ours:>8.0} {:>7.2} {:>7.2} {:>9}|{:>8} {:>8} {:>8} {:>6} {:>8} {:>5} {:>8} {:>9}",
             g.name,
             g.blocks,
             plain / ours,
             nothing / ours,
             show(graphviz_time(g).map(|t| t / ours), 1),
             thousands(count),
-            thousands(count.zip(routes).map(|(a, b)| a - b - totals.unwrap_or(0.0))),
+            thousands(counts.of("pairs", g).or(rest)),
             thousands(routes),
             thousands(totals),
-            thousands(counts.of("plain", g)),
+            thousands(plainly),
+            show(count.zip(plainly).map(|(a, b)| a / b), 2),
             thousands(counts.of("redraw", g)),
             thousands(counts.of("graphviz", g)),
         );
