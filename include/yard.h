@@ -11,9 +11,9 @@
  * length 0 alone, and is then an empty list.
  *
  * A call keeps nothing: there is no hidden state, no heap and no I/O. Calls on different tables may run at the same
- * time; calls on the same tables must not, except those that take them const beside each other. A call uses about 4 KiB
- * of stack (4,200 bytes at most where it was measured, on x86-64), yard_quote_route about 4 KiB (4,496 bytes),
- * yard_replay about 6 KiB (6,232 bytes) and a conversion of a yard file about 5 KiB (5,368 bytes): reserve 8 KiB. Only
+ * time; calls on the same tables must not, except those that take them const beside each other. A call uses about 10 KiB
+ * of stack (10,240 bytes at most where it was measured, on x86-64), yard_quote_route about 4 KiB (4,496 bytes),
+ * yard_replay about 12 KiB (12,288 bytes) and a conversion of a yard file about 5 KiB (5,368 bytes): reserve 12 KiB. Only
  * yard_quote_duct takes more, about 19 KB.
  *
  * East is the first coordinate, north the second, from 0 to 32,767; lengths are in centimetres.
