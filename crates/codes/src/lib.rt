@@ -104,7 +104,7 @@ pub fn is_beside(codes: &[u8], n: usize, i: usize, j: usize) -> bool
     ci & cj != 0
 }
 
-// The same of block n and the straight between marks i and j, at a and b.
+// What the straight between marks i and j, at a and b, has of block n.
 fn meets_block(
     blocks: &[u16],
     runs: &[u16],
@@ -142,7 +142,7 @@ pub fn hides(
     meets_block(blocks, runs, codes, n, i, j, a, b) == 2
 }
 
-// Whether that holds of four blocks from n on.
+// Whether the straight between marks i and j is beside four blocks, from block n on.
 fn are_beside(codes: &[u8], n: usize, i: usize, j: usize) -> bool
     requires { ⌜ (length (now codes) ≡ 5760) × (n ≤ 20) × (i < 240) × (j < 240) ⌝ }
     ensures { λ t. ⌜ (t ≡ true → BesideAll (now (codes .entry)) i j n (n + 4)) ⌝ }
@@ -159,7 +159,7 @@ fn are_beside(codes: &[u8], n: usize, i: usize, j: usize) -> bool
     is_beside(codes, n + 3, i, j)
 }
 
-// Passes blocks four at a time, from `from` on, while that holds of all four; answers where it stopped.
+// Passes blocks four at a time, from `from` on, while the straight is beside all four; answers where it stopped.
 fn pass_by(codes: &[u8], from: usize, i: usize, j: usize) -> usize
     requires { ⌜ (length (now codes) ≡ 5760) × (from ≤ 24) × (i < 240) × (j < 240) ⌝ }
     ensures { λ r. ⌜ PassedBy (now (codes .entry)) i j from r ⌝ }
