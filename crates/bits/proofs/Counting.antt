@@ -1,13 +1,13 @@
 -- The bits of a word, its trailing zeros, and its shifts.
 use mathlib.Core.Path.{_≡_, refl, sym, ap, _∙_}
-use Prim.Native.Nat.{ℕ, zero, suc, _+_, _*_, _/_, _%_, _^_, _<_, _≤_, max, min}
-use native.Mathlib.Nat.{pow-suc, min-le-left}
+use Prim.Native.Nat.{ℕ, zero, suc, _+_, _*_, _-_, _/_, _%_, _^_, _<_, _≤_, max, min}
+use native.Mathlib.Nat.{pow-suc, min-le-left, min-le-right}
 use native.Mathlib.Decide.{ℕ-discrete, decLt}
 use native.Mathlib.Omega.{arith}
 use lib.Count.{trailingZeros, under}
-use lib.Bits.{bitOr, or-step, bitAnd, and-step}
+use lib.Bits.{bitOr, or-step, bitAnd, and-step, and-le-r}
 use lib.Pow.{shr-shr, pow-lt}
-use Rattle.bits.specs.inner.Bits.{bit, Lowest, With, Packed}
+use Rattle.bits.specs.inner.Bits.{bit, Lowest, WithoutLowest, With, Packed}
 
 -- the trailing zeros are zeros, and the digit after them is set
 under-low : (n t i : ℕ) → i < under (n % 2) t → ((j : ℕ) → j < t → bit j (n / 2) ≡ 0) → bit i n ≡ 0
@@ -99,6 +99,39 @@ bit-and zero a b = omega (arith, and-step a b, min-low a b)
 bit-and (suc i) a b =
     let q : bitAnd a b / 2 ≡ bitAnd (a / 2) (b / 2) = omega (arith, and-step a b, min-low a b) in
     ap (bit i) q ∙ bit-and i (a / 2) (b / 2)
+
+-- 1 less: the lowest set bit is clear, and those above it stay
+less-here : (z c : ℕ) → bit z c ≡ 1 → ((i : ℕ) → i < z → bit i c ≡ 0) → bit z (c - 1) ≡ 0
+unfolding bit
+less-here zero c e f = omega arith
+less-here (suc z) c e f =
+    let q : (c - 1) / 2 ≡ c / 2 - 1 = omega (arith, f 0 (omega arith)) in
+    ap (bit z) q ∙ less-here z (c / 2) e (λ i l. f (suc i) (omega arith))
+
+less-above : (z c : ℕ) → bit z c ≡ 1 → ((i : ℕ) → i < z → bit i c ≡ 0) → (i : ℕ) → z < i → bit i (c - 1) ≡ bit i c
+unfolding bit
+less-above z c e f zero l = absurd (omega arith)
+less-above zero c e f (suc i) l = let q : (c - 1) / 2 ≡ c / 2 = omega arith in ap (bit i) q
+less-above (suc z) c e f (suc i) l =
+    let q : (c - 1) / 2 ≡ c / 2 - 1 = omega (arith, f 0 (omega arith)) in
+    ap (bit i) q ∙ less-above z (c / 2) e (λ j m. f (suc j) (omega arith)) i (omega arith)
+
+min-same : (a : ℕ) → min a a ≡ a
+min-same a = omega arith
+
+pub without-is : (c : ℕ) → 0 < c → WithoutLowest c (bitAnd c (c - 1))
+without-is c p =
+    record {
+      fewer = omega (arith, and-le-r c (c - 1));
+      here = λ z w. omega (arith, bit-and z c (c - 1), less-here z c (w .set) (w .least), min-le-right (bit z c) (bit z (c - 1)));
+      rest = λ z i w d. go z i w d (decLt i z);
+    }
+  where
+    go : (z i : ℕ) → Lowest c z → (i ≡ z → ⊥) → Dec (i < z) → bit i (bitAnd c (c - 1)) ≡ bit i c
+    go z i w d (yes l) = omega (arith, bit-and i c (c - 1), w .least i l, min-le-left (bit i c) (bit i (c - 1)))
+    go z i w d (no l) =
+        let m : z < i = elim (decLt z i) [ yes m ↦ m | no m ↦ absurd (d (omega arith)) ] in
+        bit-and i c (c - 1) ∙ ap (min (bit i c)) (less-above z c (w .set) (w .least) i m) ∙ min-same (bit i c)
 
 pub bit-zero : (i : ℕ) → bit i 0 ≡ 0
 unfolding bit

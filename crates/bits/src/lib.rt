@@ -1,7 +1,7 @@
 // Words as sets of small numbers: the lowest, those after it, one more, those of two.
 ghost use mathlib.Core.Path.{_≡_};
-ghost use Prim.Native.Nat.{ℕ, _+_, _*_, _<_, _≤_, min};
-ghost use Rattle.bits.specs.inner.Bits.{bit, Lowest, With, Packed};
+ghost use Prim.Native.Nat.{ℕ, _+_, _*_, _<_, min};
+ghost use Rattle.bits.specs.inner.Bits.{bit, Lowest, WithoutLowest, With, Packed};
 
 // The lowest set bit of a word that is not 0.
 pub fn lowest(c: u64) -> u32
@@ -17,6 +17,14 @@ pub fn above(c: u64, z: u32) -> u64
     ensures { λ r. ⌜ ((i : ℕ) → bit i r ≡ bit (i + 1 + z) c) ⌝ }
 {
     (c >> z) >> 1
+}
+
+// The word without its lowest set bit.
+pub fn without_lowest(c: u64) -> u64
+    requires { ⌜ 0 < c ⌝ }
+    ensures { λ r. ⌜ WithoutLowest c r ⌝ }
+{
+    c & (c - 1)
 }
 
 // The word with one more bit below.

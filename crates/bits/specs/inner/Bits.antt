@@ -12,6 +12,12 @@ pub record Lowest (c r : ℕ) : Type 0 where
   pub set : bit r c ≡ 1
   pub least : (i : ℕ) → i < r → bit i c ≡ 0
 
+-- r is c without its lowest set bit z
+pub record WithoutLowest (c r : ℕ) : Type 0 where
+  pub fewer : r < c
+  pub here : (z : ℕ) → Lowest c z → bit z r ≡ 0
+  pub rest : (z i : ℕ) → Lowest c z → (i ≡ z → ⊥) → bit i r ≡ bit i c
+
 -- r is c with bit b set
 pub record With (c b r : ℕ) : Type 0 where
   pub here : bit b r ≡ 1
