@@ -7,8 +7,10 @@ ghost use Rattle.lists.specs.inner.Tells.{Tells};
 ghost use Rattle.geometry.specs.Words.{pointOf};
 ghost use Rattle.geometry.specs.inner.Bounds.{Bounded, InRange};
 ghost use Rattle.seams.specs.Seam.{Shared, Disjoint};
-ghost use Rattle.seam_search.specs.inner.Masks.{Boxes, Divided, MaskBit, Mask, Masks, TouchedIn, SharedAfter};
+ghost use Rattle.seams.specs.inner.Reach.{Kept};
+ghost use Rattle.seam_search.specs.inner.Masks.{Boxes, Divided, MaskBit, Mask, Masks, TouchedIn, Numbers, Later, JoinedAmong, SharedAfter};
 use geometry::Place;
+use geometry::Span;
 
 // Whether blocks p and q lie apart along a coordinate: the greatest of one is below the least of the other.
 fn is_divided(lows: &[u16], highs: &[u16], p: usize, q: usize) -> bool
@@ -111,23 +113,38 @@ pub fn all_apart(blocks: &[u16], masks: &[u64]) -> bool
     true
 }
 
+// Whether what is kept of the segment from a to b meets a block of the word.
+fn joined_among(blocks: &[u16], word: u64, kept: Span, a: Place, b: Place) -> bool
+    requires blocks { ⌜ (Bounded (now blocks)) × (Numbers word) ⌝ }
+    requires kept { ⌜ Kept (kept .l) (kept .r) (kept .p) (kept .q) ⌝ }
+    requires ends { ⌜ (InRange (pointOf a)) × (InRange (pointOf b)) ⌝ }
+    ensures { λ t. ⌜ Tells (JoinedAmong (now (blocks .entry)) word (pointOf a) (pointOf b) (kept .l) (kept .r) (kept .p) (kept .q)) t ⌝ }
+{
+    let mut rest = word;
+    while 0 < rest {
+        let q = bits::lowest(rest) as usize;
+        if seams::meets_block(blocks, q, kept, a, b) {
+            return true;
+        }
+        rest = bits::without_lowest(rest);
+    }
+    false
+}
+
 // Whether some place of the segment from a to b belongs both to block p and to a later one that is in both words.
 fn shared_after(blocks: &[u16], mask: u64, touched: u64, p: usize, a: Place, b: Place) -> bool
-    requires blocks { ⌜ (Bounded (now blocks)) × (touched < 16777216) × (p < 24) ⌝ }
+    requires blocks { ⌜ (Bounded (now blocks)) × (p < 24) ⌝ }
+    requires touched { ⌜ Later p touched ⌝ }
     requires ends { ⌜ (InRange (pointOf a)) × (InRange (pointOf b)) ⌝ }
     ensures { λ t. ⌜ Tells (SharedAfter (now (blocks .entry)) mask touched p (pointOf a) (pointOf b)) t ⌝ }
 {
     let w = bits::both(mask, touched);
-    let mut rest = bits::above(w, p as u32);
-    let mut at = p + 1;
-    while 0 < rest {
-        let z = bits::lowest(rest);
-        let q = at + z as usize;
-        if seams::shared_by(blocks, p, q, a, b) {
-            return true;
-        }
-        rest = bits::above(rest, z);
-        at = q + 1;
+    if w == 0 {
+        return false;
+    }
+    let first = seams::first_reach(blocks, p, a, b);
+    if first.open {
+        return joined_among(blocks, w, first.kept, a, b);
     }
     false
 }
@@ -140,15 +157,12 @@ pub fn shared_among(blocks: &[u16], masks: &[u64], touched: u64, a: Place, b: Pl
     ensures { λ t. ⌜ Tells (Shared (now (blocks .entry)) (pointOf a) (pointOf b)) t ⌝ }
 {
     let mut rest = touched;
-    let mut at = 0;
     while 0 < rest {
-        let z = bits::lowest(rest);
-        let p = at + z as usize;
-        if shared_after(blocks, masks[p], touched, p, a, b) {
+        let p = bits::lowest(rest) as usize;
+        rest = bits::without_lowest(rest);
+        if shared_after(blocks, masks[p], rest, p, a, b) {
             return true;
         }
-        rest = bits::above(rest, z);
-        at = p + 1;
     }
     false
 }

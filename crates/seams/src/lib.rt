@@ -9,16 +9,16 @@ ghost use Rattle.geometry.specs.inner.Bounds.{BoundedRecord, Bounded, InRange};
 ghost use Rattle.geometry.specs.inner.Sides.{Within};
 ghost use Rattle.seams.specs.Seam.{Shared};
 ghost use Rattle.seams.specs.inner.Near.{Near};
-ghost use Rattle.seams.specs.inner.Reach.{Kept, Tightened, Common, Reached, Joined, SharedFrom, SharedBy};
+ghost use Rattle.seams.specs.inner.Reach.{Kept, Tightened, Common, Reached, Meeting, Joined, SharedFrom};
 use geometry::Place;
 use geometry::Span;
 use geometry::side;
 use geometry::steeper;
 
 // What is left of a segment after the sides of a block, and whether anything is.
-struct Rest {
-    open: bool,
-    kept: Span,
+pub struct Rest {
+    pub open: bool,
+    pub kept: Span,
 }
 
 // Whether both turns are below 0.
@@ -121,6 +121,32 @@ fn block_reach(blocks: &[u16], n: usize, start: Span, a: Place, b: Place) -> Res
     reach(&blocks[17 * n..17 * n + 17], start, a, b)
 }
 
+// What block n leaves of the whole segment.
+pub fn first_reach(blocks: &[u16], n: usize, a: Place, b: Place) -> Rest
+    requires blocks { ⌜ (Bounded (now blocks)) × (n < 24) ⌝ }
+    requires ends { ⌜ (InRange (pointOf a)) × (InRange (pointOf b)) ⌝ }
+    ensures { λ t. ⌜ Reached (blockWords (now (blocks .entry)) n) (pointOf a) (pointOf b) (pos 1) (pos 1) (pos 1) (pos 1) (t .open) (t .kept .l) (t .kept .r) (t .kept .p) (t .kept .q) ⌝ }
+{
+    let whole = Span {
+        l: 1,
+        r: 1,
+        p: 1,
+        q: 1,
+    };
+    block_reach(blocks, n, whole, a, b)
+}
+
+// Whether what is kept of the segment meets block n.
+pub fn meets_block(blocks: &[u16], n: usize, kept: Span, a: Place, b: Place) -> bool
+    requires blocks { ⌜ (Bounded (now blocks)) × (n < 24) ⌝ }
+    requires kept { ⌜ Kept (kept .l) (kept .r) (kept .p) (kept .q) ⌝ }
+    requires ends { ⌜ (InRange (pointOf a)) × (InRange (pointOf b)) ⌝ }
+    ensures { λ t. ⌜ Tells (Meeting (blockWords (now (blocks .entry)) n) (pointOf a) (pointOf b) (kept .l) (kept .r) (kept .p) (kept .q)) t ⌝ }
+{
+    let next = block_reach(blocks, n, kept, a, b);
+    next.open
+}
+
 // Whether what is kept of the segment meets a block of the numbers from..24.
 fn joined(blocks: &[u16], from: usize, kept: Span, a: Place, b: Place) -> bool
     requires blocks { ⌜ Bounded (now blocks) ⌝ }
@@ -130,8 +156,7 @@ fn joined(blocks: &[u16], from: usize, kept: Span, a: Place, b: Place) -> bool
 {
     let mut m = from;
     while m < 24 {
-        let next = block_reach(blocks, m, kept, a, b);
-        if next.open {
+        if meets_block(blocks, m, kept, a, b) {
             return true;
         }
         m += 1;
@@ -145,35 +170,9 @@ fn shared_from(blocks: &[u16], n: usize, a: Place, b: Place) -> bool
     requires ends { ⌜ (InRange (pointOf a)) × (InRange (pointOf b)) ⌝ }
     ensures { λ t. ⌜ Tells (SharedFrom (now (blocks .entry)) n (pointOf a) (pointOf b)) t ⌝ }
 {
-    let whole = Span {
-        l: 1,
-        r: 1,
-        p: 1,
-        q: 1,
-    };
-    let first = block_reach(blocks, n, whole, a, b);
+    let first = first_reach(blocks, n, a, b);
     if first.open {
         return joined(blocks, n + 1, first.kept, a, b);
-    }
-    false
-}
-
-// Whether some place of the segment from a to b belongs both to block p and to block q.
-pub fn shared_by(blocks: &[u16], p: usize, q: usize, a: Place, b: Place) -> bool
-    requires blocks { ⌜ (Bounded (now blocks)) × (p < 24) × (q < 24) ⌝ }
-    requires ends { ⌜ (InRange (pointOf a)) × (InRange (pointOf b)) ⌝ }
-    ensures { λ t. ⌜ Tells (SharedBy (now (blocks .entry)) p q (pointOf a) (pointOf b)) t ⌝ }
-{
-    let whole = Span {
-        l: 1,
-        r: 1,
-        p: 1,
-        q: 1,
-    };
-    let first = block_reach(blocks, p, whole, a, b);
-    if first.open {
-        let second = block_reach(blocks, q, first.kept, a, b);
-        return second.open;
     }
     false
 }

@@ -1,65 +1,28 @@
--- The loop keeps: no block after p whose bit is passed shares a point with it, and bit i of `rest` is that of block at + i.
 use borrow.Author.Needs.{needs}
-use Prim.Native.Nat.{_+_, _-_, _<_}
-use native.Mathlib.Omega.{arith}
-use Rattle.geometry.specs.Words.{pointOf}
-use Rattle.seams.specs.inner.Reach.{SharedBy}
-use Rattle.seam_search.proofs.Walking.{Walked, walked-above, walked-set, walked-next, after-low, after-yes, after-no}
+use Rattle.seam_search.proofs.Walking.{both-numbers, after-none, after-joined, after-shut}
 use Rattle.seam_search.proofs.shared_after.Statement.{statement}
 use Rattle.seam_search.proofs.shared_after.Tie as tie
 
-abbrev Inv-loop : tie.InvT-loop
-Inv-loop blocks mask touched p a b w rest₀ at₀ rest at = Walked (λ k. SharedBy blocks p k (pointOf a) (pointOf b)) w (p + 1) rest at
+joined-among-requires : tie.Need-joined-among-requires
+joined-among-requires c κs =
+    let k = c .before in
+    let w = k .before .before in
+    let s = w .before .before in
+    ((s .pre .0 .0, both-numbers _ _ _ (w .both .ensures) (s .pre .1 .0)), (k .first-reach .ensures .kept, s .pre .1 .1))
 
-abbrev μ-loop : tie.MeasureT-loop
-μ-loop blocks mask touched p a b w rest₀ at₀ rest at = 24 - at
-
-loop-holds : tie.Need-loop-holds Inv-loop μ-loop
-loop-holds c = walked-above _ (c .above .ensures)
-
-number : (c : tie.After-lowest Inv-loop μ-loop) → c .before .before .loop .at + c .lowest .result < 24
-number c =
-    let l = c .before .before in
-    after-low _ _ _ (l .before .before .both .ensures) _ (l .before .before .before .before .pre .0 .1) (walked-set (l .loop .inv) (c .lowest .ensures))
-
-shared-by-requires : tie.Need-shared-by-requires Inv-loop μ-loop
-shared-by-requires c κs =
-    let s = c .before .before .before .before .before .before in
-    ((s .pre .0 .0, s .pre .0 .2, number c), s .pre .1)
-
-returns : tie.Need-returns Inv-loop μ-loop
-returns c =
-    let z = c .before .before in
-    let l = z .before .before in
-    after-yes _ _ _ (l .before .before .both .ensures) _ (omega (arith, l .loop .inv .past)) (walked-set (l .loop .inv) (z .lowest .ensures)) (c .before .shared-by .ensures .yes′ (c .if1 .taken))
-
-loop-again : tie.Need-loop-again Inv-loop μ-loop
-loop-again c =
-    let k = c .before .before in
-    let z = k .before in
-    walked-next (z .before .before .loop .inv) (z .lowest .ensures) (k .shared-by .ensures .no′ (c .before .if1 .left)) (c .above2 .ensures)
-
-returns-2 : tie.Need-returns-2 Inv-loop μ-loop
-returns-2 c = after-no _ _ _ (c .before .before .before .both .ensures) (c .before .loop .inv) (omega arith)
+returns-2 : tie.Need-returns-2
+returns-2 c =
+    let t = c .before in
+    let w = t .before .before .before in
+    after-joined _ _ _ (w .both .ensures) (t .before .first-reach .ensures) (w .before .before .pre .1 .0) (t .if2 .taken) (c .joined-among .ensures)
 
 pub shared-after-spec : {M : Type 1} → statement M
 shared-after-spec =
     tie.close
     (tie.spec
-    Inv-loop
-    μ-loop
     (λ c κs. search needs)
-    (λ c. search needs)
+    (λ c. after-none _ _ _ (c .before .both .ensures) (c .if1 .taken))
     (λ c κs. search needs)
-    (λ c. search needs)
-    loop-holds
-    (λ c κs. search needs)
-    (λ c. omega (arith, c .lowest .ensures .within))
-    (λ c. omega (arith, number c))
-    shared-by-requires
-    returns
-    (λ c κs. c .before .before .lowest .ensures .within)
-    (λ c. omega (arith, number (c .before .before .before)))
-    (λ c. omega (arith, number (c .before .before .before)))
-    loop-again
-    returns-2)
+    joined-among-requires
+    returns-2
+    (λ c. after-shut (c .before .first-reach .ensures) (c .if2 .left)))

@@ -1,41 +1,49 @@
--- The loop keeps: no block whose bit is passed shares a point with a later one, and bit i of `rest` is that of block at + i.
+-- The loop keeps: no block whose bit is passed shares a point with a later one.
 use borrow.Author.Needs.{needs}
-use Prim.Native.Nat.{_+_, _-_, _<_}
+use Prim.Native.Nat.{_<_}
 use native.Mathlib.Omega.{arith}
 use Rattle.geometry.specs.Words.{pointOf, word}
 use Rattle.bits.proofs.Counting.{bit-low}
-use Rattle.seam_search.specs.inner.Masks.{SharedAfter}
-use Rattle.seam_search.proofs.Walking.{Walked, walked-whole, walked-set, walked-next, among-yes, among-no}
+use Rattle.seam_search.specs.inner.Masks.{Later, SharedAfter}
+use Rattle.seam_search.proofs.Walking.{Walked, walked-whole, walked-set, walked-next, later-left, none-after, among-yes, among-no}
 use Rattle.seam_search.proofs.shared_among.Statement.{statement}
 use Rattle.seam_search.proofs.shared_among.Tie as tie
 
 abbrev Inv-loop : tie.InvT-loop
-Inv-loop blocks masks touched a b rest₀ at₀ rest at = Walked (λ p. SharedAfter blocks (word masks p) touched p (pointOf a) (pointOf b)) touched 0 rest at
+Inv-loop blocks masks touched a b rest₀ rest = Walked (λ p. SharedAfter blocks (word masks p) touched p (pointOf a) (pointOf b)) touched rest
 
 abbrev μ-loop : tie.MeasureT-loop
-μ-loop blocks masks touched a b rest₀ at₀ rest at = 24 - at
+μ-loop blocks masks touched a b rest₀ rest = rest
 
-number : (c : tie.After-lowest Inv-loop μ-loop) → c .before .before .loop .at + c .lowest .result < 24
+number : (c : tie.After-lowest Inv-loop μ-loop) → c .lowest .result < 24
 number c =
     let l = c .before .before in
     bit-low 24 _ _ (l .before .before .before .pre .1 .0 .0) (walked-set (l .loop .inv) (c .lowest .ensures))
 
+later : (c : tie.After-without-lowest Inv-loop μ-loop) → Later (c .before .lowest .result) (c .without-lowest .result)
+later c =
+    let z = c .before in
+    let l = z .before .before in
+    later-left (l .loop .inv) (z .lowest .ensures) (c .without-lowest .ensures) (l .before .before .before .pre .1 .0 .0)
+
 shared-after-requires : tie.Need-shared-after-requires Inv-loop μ-loop
 shared-after-requires c κs =
-    let s = c .before .before .before .before .before .before in
-    ((s .pre .0 .0, s .pre .1 .0 .0, number (c .before)), s .pre .1 .1)
+    let k = c .before in
+    let s = k .before .before .before .before .before .before in
+    ((s .pre .0 .0, number (k .before)), (later k, s .pre .1 .1))
 
 returns : tie.Need-returns Inv-loop μ-loop
 returns c =
-    let k = c .before in
-    let s = k .before .before .before .before .before .before .before in
-    among-yes (number (k .before .before)) (s .pre .1 .0 .0) (k .shared-after .ensures .yes′ (c .if1 .taken))
+    let k = c .before .before .before in
+    among-yes (number (k .before)) (later k) (c .before .shared-after .ensures .yes′ (c .if1 .taken))
 
 loop-again : tie.Need-loop-again Inv-loop μ-loop
 loop-again c =
-    let k = c .before .before in
-    let z = k .before .before in
-    walked-next (z .before .before .loop .inv) (z .lowest .ensures) (k .shared-after .ensures .no′ (c .before .if1 .left)) (c .above .ensures)
+    let k = c .before .before .before in
+    let z = k .before in
+    let w = z .before .before .loop .inv in
+    walked-next w (z .lowest .ensures) (k .without-lowest .ensures)
+    (none-after w (z .lowest .ensures) (k .without-lowest .ensures) (c .before .shared-after .ensures .no′ (c .if1 .left)))
 
 returns-2 : tie.Need-returns-2 Inv-loop μ-loop
 returns-2 c =
@@ -51,13 +59,11 @@ shared-among-spec =
     (λ c. walked-whole)
     (λ c κs. search needs)
     (λ c. omega (arith, c .lowest .ensures .within))
-    (λ c. omega (arith, number c))
-    (λ c. omega (arith, number c))
-    (λ c. omega (arith, number (c .before), c .before .before .before .before .before .before .pre .0 .1 .sized))
+    (λ c κs. search needs)
+    (λ c. omega (arith, number (c .before)))
+    (λ c. omega (arith, number (c .before .before), c .before .before .before .before .before .before .before .pre .0 .1 .sized))
     shared-after-requires
     returns
-    (λ c κs. c .before .before .before .lowest .ensures .within)
-    (λ c. omega (arith, number (c .before .before .before .before)))
-    (λ c. omega (arith, number (c .before .before .before .before)))
+    (λ c. c .before .before .before .without-lowest .ensures .fewer)
     loop-again
     returns-2)

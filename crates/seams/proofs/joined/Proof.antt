@@ -15,12 +15,12 @@ returns : tie.Need-returns Inv-loop μ-loop
 returns c =
     let k = c .before in
     let l = k .before in
-    joined-yes _ _ _ _ _ _ _ _ (l .before .loop .inv) (l .loop-test .taken) (k .block-reach .ensures) (c .if1 .taken)
+    joined-yes _ _ _ _ _ _ _ _ (l .before .loop .inv) (l .loop-test .taken) (k .meets-block .ensures .yes′ (c .if1 .taken))
 
 loop-again : tie.Need-loop-again Inv-loop μ-loop
 loop-again c =
     let k = c .before in
-    missed-more _ _ _ _ _ _ _ _ (k .before .before .loop .inv) (k .block-reach .ensures) (c .if1 .left)
+    missed-more _ _ _ _ _ _ _ _ (k .before .before .loop .inv) (k .meets-block .ensures .no′ (c .if1 .left))
 
 pub joined-spec : {M : Type 1} → statement M
 joined-spec =

@@ -63,27 +63,20 @@ pub record Reached (ws : List ℕ) (a b : Point) (l r p q : ℤ) (t : Bool) (l�
   pub all : t ≡ true → (u s : ℕ) → 1 ≤ u + s → Both l′ r′ p′ q′ u s → Both l r p q u s × Touched ws a b u s
   pub only : (u s : ℕ) → 1 ≤ u + s → Both l r p q u s → Touched ws a b u s → (t ≡ true) × Both l′ r′ p′ q′ u s
 
--- some point that is on the inner side of both kept sides belongs to a block from `from` on
-pub record Joined (blocks : List ℕ) (from : ℕ) (a b : Point) (l r p q : ℤ) : Type 0 where
-  pub k : ℕ
+-- some point that is on the inner side of both kept sides belongs to the block whose record is ws
+pub record Meeting (ws : List ℕ) (a b : Point) (l r p q : ℤ) : Type 0 where
   pub u : ℕ
   pub s : ℕ
-  pub after : from ≤ k
-  pub number : k < 24
   pub some : 1 ≤ u + s
   pub between : Both l r p q u s
-  pub touched : Touched (blockWords blocks k) a b u s
+  pub touched : Touched ws a b u s
 
--- some point of the segment belongs both to block n and to a later one
-pub record SharedFrom (blocks : List ℕ) (n : ℕ) (a b : Point) : Type 0 where
+-- or to a block from `from` on
+pub record Joined (blocks : List ℕ) (from : ℕ) (a b : Point) (l r p q : ℤ) : Type 0 where
   pub k : ℕ
-  pub u : ℕ
-  pub s : ℕ
-  pub later : n < k
+  pub after : from ≤ k
   pub number : k < 24
-  pub some : 1 ≤ u + s
-  pub here : Touched (blockWords blocks n) a b u s
-  pub there : Touched (blockWords blocks k) a b u s
+  pub met : Meeting (blockWords blocks k) a b l r p q
 
 -- some point of the segment belongs both to block p and to block q
 pub record SharedBy (blocks : List ℕ) (p q : ℕ) (a b : Point) : Type 0 where
@@ -92,3 +85,10 @@ pub record SharedBy (blocks : List ℕ) (p q : ℕ) (a b : Point) : Type 0 where
   pub some : 1 ≤ u + s
   pub here : Touched (blockWords blocks p) a b u s
   pub there : Touched (blockWords blocks q) a b u s
+
+-- both to block n and to a later one
+pub record SharedFrom (blocks : List ℕ) (n : ℕ) (a b : Point) : Type 0 where
+  pub k : ℕ
+  pub later : n < k
+  pub number : k < 24
+  pub shared : SharedBy blocks n k a b
