@@ -17,11 +17,11 @@ use seam_search::shared_among;
 use tables::is_present;
 use tables::place_of;
 
-// The blocks that a straight may touch: those that a look finds, and those with a side in line with one of its ends.
+// The blocks that a straight may touch: those that a look finds, those with sides in line with both ends, and those that an end belongs to.
 fn touched(opened: u64, first: u64, last: u64) -> u64
     ensures { λ r. ⌜ TouchedWord opened first last r ⌝ }
 {
-    (opened | first | last) & 16777215
+    (opened | (first & last) | ((first | last) >> 24)) & 16777215
 }
 
 // The byte of the straight between present marks i and j, at a and b, that no block hides.

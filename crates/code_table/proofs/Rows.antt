@@ -13,8 +13,7 @@ use lib.Seq.{getD-set-same, getD-set-other}
 use Rattle.lists.specs.inner.Filled.{filled}
 use Rattle.lists.specs.Lists.{splice}
 use Rattle.geometry.specs.Words.{point, word, blockWords, corners}
-use Rattle.geometry.specs.inner.Bounds.{BoundedRecord, Bounded}
-use Rattle.geometry.proofs.Searching.{part-is, record-bounded}
+use Rattle.geometry.proofs.Searching.{part-is}
 use Rattle.tables.specs.Tables.{Records, stored, placeOf}
 use Rattle.tables.specs.inner.Fit.{Fit}
 use Rattle.tables.proofs.Marks.{place-in-range}
@@ -104,9 +103,6 @@ rows-all R codes n h u = record { sized = u .sized; each = λ b i l m. u .each b
 
 pub row-lent : (codes : List ℕ) (n : ℕ) → length codes ≡ 5760 → n < 24 → length (take (240 * n + 240 - 240 * n) (drop (240 * n) codes)) ≡ 240
 row-lent codes n l h = simp (length-take, length-drop) (omega arith)
-
-pub record-lent : (blocks : List ℕ) (n : ℕ) → Bounded blocks → n < 24 → BoundedRecord (take (17 * n + 17 - 17 * n) (drop (17 * n) blocks))
-record-lent blocks n b h = rw (part-is blocks n) (record-bounded blocks n b h)
 
 module _ (blocks runs east north codes row : List ℕ) (n : ℕ) (h : n < 24) (p : PlacesOf (stored blocks runs) east north)
     (r : RowIs (take (17 * n + 17 - 17 * n) (drop (17 * n) blocks)) east north row) (u : RowsUpto (stored blocks runs) codes n) where

@@ -1,5 +1,6 @@
 use borrow.Author.Needs.{needs}
-use Rattle.alignments.proofs.Marking.{lines-alone, lines-added, record-lent}
+use Rattle.geometry.proofs.Searching.{part-bounded}
+use Rattle.alignments.proofs.Marking.{blank-new, lines-alone, lines-added}
 use Rattle.alignments.proofs.add_lines.Statement.{statement}
 use Rattle.alignments.proofs.add_lines.Tie as tie
 
@@ -18,7 +19,7 @@ add-lines-spec =
     (λ c. search needs)
     (λ c. search needs)
     (λ c. search needs)
-    (λ c κs. search (record-lent, needs))
+    (λ c κs. search (part-bounded, blank-new, needs))
     (λ c. search needs)
     (λ c. search needs)
     (λ c κs. search needs)

@@ -1,5 +1,5 @@
-use mathlib.Core.Path.{_≡_}
-use native.Mathlib.Omega.{arith}
+use borrow.Author.Needs.{needs}
+use Rattle.alignments.proofs.Marking.{marked-is}
 use Rattle.alignments.proofs.marked.Statement.{statement}
 use Rattle.alignments.proofs.marked.Tie as tie
 
@@ -7,5 +7,6 @@ pub marked-spec : {M : Type 1} → statement M
 marked-spec =
     tie.close
     (tie.spec
-    (λ c e. absurd (omega arith))
-    (λ c e. (e, c .if1 .left)))
+    (λ c κs. search needs)
+    (λ c κs. search needs)
+    (λ c. search marked-is))

@@ -3,7 +3,8 @@ use Prim.Native.Nat.{_-_, _≤_}
 use native.Mathlib.Omega.{arith}
 use borrow.Author.Needs.{needs}
 use Rattle.tables.specs.Tables.{stored}
-use Rattle.code_table.proofs.Rows.{RowsUpto, rows-none, rows-next, rows-all, row-lent, record-lent}
+use Rattle.geometry.proofs.Searching.{part-bounded}
+use Rattle.code_table.proofs.Rows.{RowsUpto, rows-none, rows-next, rows-all, row-lent}
 use Rattle.code_table.proofs.fill_codes.Statement.{statement}
 use Rattle.code_table.proofs.fill_codes.Tie as tie
 
@@ -33,7 +34,7 @@ fill-codes-spec =
     (λ c. search needs)
     (λ c. search needs)
     (λ c. search needs)
-    (λ c κs. search (record-lent, row-lent, needs))
+    (λ c κs. search (part-bounded, row-lent, needs))
     (λ c. search needs)
     (λ c. search needs)
     (λ c. (omega arith, search rows-next))
