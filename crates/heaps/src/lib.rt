@@ -1,8 +1,10 @@
 // The marks of a search in one list: the least by the sum of key and bound, and a heap of them.
-ghost use Prim.Native.Nat.{_+_, _*_, _<_, _≤_};
+ghost use mathlib.Core.Path.{_≡_};
+ghost use Prim.Native.Nat.{_+_, _*_, _-_, _%_, _<_, _≤_, min};
 ghost use lib.ListN.{length};
 ghost use Rattle.heaps.specs.inner.Marks.{Swapped};
-ghost use Rattle.heaps.specs.inner.Sums.{Comparable, Least, Sooner};
+ghost use Rattle.geometry.specs.Words.{word};
+ghost use Rattle.heaps.specs.inner.Sums.{Comparable, LeastFour, LowTo, LeastOf, Least, Sooner};
 ghost use Rattle.heaps.specs.inner.Heaps.{Heap, Rearranged, LesserChild, Heapable};
 
 // Exchanges the marks at the places i and j.
@@ -33,6 +35,91 @@ pub fn least(bounds: &[u32], key: &[u32], order: &[u16], lo: usize, hi: usize) -
         j += 1;
     }
     best
+}
+
+// The least sum so far, and a place that it does not stand before.
+struct Low {
+    sum: u32,
+    from: usize,
+}
+
+fn lesser(a: u32, b: u32) -> u32
+    ensures { λ r. ⌜ r ≡ min a b ⌝ }
+{
+    if a < b { a } else { b }
+}
+
+// The least of the four sums from j on.
+fn least_four(sums: &[u32], j: usize) -> u32
+    requires { ⌜ j + 4 ≤ length (now sums) ⌝ }
+    ensures { λ r. ⌜ LeastFour (word (now (sums .entry))) j r ⌝ }
+{
+    lesser(
+        lesser(sums[j], sums[j + 1]),
+        lesser(sums[j + 2], sums[j + 3]),
+    )
+}
+
+// The least of the sums from lo on and before stop, four at a time.
+fn lowest_by_fours(sums: &[u32], lo: usize, stop: usize, hi: usize) -> Low
+    requires { ⌜ (hi ≤ length (now sums)) × (lo ≤ stop) × (stop ≤ hi) × ((stop - lo) % 4 ≡ 0) ⌝ }
+    ensures { λ r. ⌜ LowTo (word (now (sums .entry))) lo hi (r .sum) (r .from) stop ⌝ }
+{
+    let mut sum: u32 = 4000000000;
+    let mut from = hi;
+    let mut j = lo;
+    while j < stop {
+        let four = least_four(sums, j);
+        if four < sum {
+            sum = four;
+            from = j;
+        }
+        j += 4;
+    }
+    Low {
+        sum: sum,
+        from: from,
+    }
+}
+
+// The same with those before hi.
+fn lowest(sums: &[u32], lo: usize, stop: usize, hi: usize) -> Low
+    requires { ⌜ (hi ≤ length (now sums)) × (lo ≤ stop) × (stop ≤ hi) × ((stop - lo) % 4 ≡ 0) ⌝ }
+    ensures { λ r. ⌜ LowTo (word (now (sums .entry))) lo hi (r .sum) (r .from) hi ⌝ }
+{
+    let low = lowest_by_fours(sums, lo, stop, hi);
+    let mut sum = low.sum;
+    let mut from = low.from;
+    let mut j = stop;
+    while j < hi {
+        let one = sums[j];
+        if one < sum {
+            sum = one;
+            from = j;
+        }
+        j += 1;
+    }
+    Low {
+        sum: sum,
+        from: from,
+    }
+}
+
+// The place of the least of the sums from lo on and before hi, or hi where no mark there is reached.
+pub fn least_sum(sums: &[u32], lo: usize, hi: usize) -> usize
+    requires { ⌜ (hi ≤ length (now sums)) × (lo ≤ hi) ⌝ }
+    ensures { λ r. ⌜ LeastOf (word (now (sums .entry))) lo hi r ⌝ }
+{
+    let stop = lo + (hi - lo) / 4 * 4;
+    let low = lowest(sums, lo, stop, hi);
+    let mut j = low.from;
+    while j < hi {
+        if sums[j] == low.sum {
+            return j;
+        }
+        j += 1;
+    }
+    hi
 }
 
 // The child of the place i in a heap of n marks that has the lesser sum of key and bound; there is one.

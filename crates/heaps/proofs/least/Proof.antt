@@ -4,12 +4,13 @@ use Prim.Native.Nat.{_-_, _<_}
 use native.Mathlib.Omega.{arith}
 use borrow.Author.Needs.{needs}
 use Rattle.geometry.specs.Words.{word}
+use Rattle.heaps.specs.inner.Sums.{whole}
 use Rattle.heaps.proofs.Sums.{BestTo, best-none, best-kept, best-new, best-least}
 use Rattle.heaps.proofs.least.Statement.{statement}
 use Rattle.heaps.proofs.least.Tie as tie
 
 abbrev Inv-loop : tie.InvT-loop
-Inv-loop bounds key order lo hi best₀ low₀ j₀ best low j = BestTo bounds key order lo hi best low j
+Inv-loop bounds key order lo hi best₀ low₀ j₀ best low j = BestTo (λ i. whole bounds key (word order i)) lo hi best low j
 
 abbrev μ-loop : tie.MeasureT-loop
 μ-loop bounds key order lo hi best₀ low₀ j₀ best low j = hi - j
