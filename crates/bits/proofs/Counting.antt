@@ -1,12 +1,12 @@
 -- The bits of a word, its trailing zeros, and its shifts.
 use mathlib.Core.Path.{_≡_, refl, sym, ap, _∙_}
-use Prim.Native.Nat.{ℕ, zero, suc, _+_, _*_, _-_, _/_, _%_, _^_, _<_, _≤_, max, min}
+use Prim.Native.Nat.{ℕ, zero, suc, _+_, _*_, _-_, _/_, _%_, _^_, _<_, max, min}
 use native.Mathlib.Nat.{pow-suc, min-le-left, min-le-right}
 use native.Mathlib.Decide.{ℕ-discrete, decLt}
 use native.Mathlib.Omega.{arith}
 use lib.Count.{trailingZeros, under}
 use lib.Bits.{bitOr, or-step, bitAnd, and-step, and-le-r}
-use lib.Pow.{shr-shr, pow-lt}
+use lib.Pow.{pow-lt}
 use Rattle.bits.specs.inner.Bits.{bit, Lowest, WithoutLowest, With, Packed}
 
 -- the trailing zeros are zeros, and the digit after them is set
@@ -54,26 +54,9 @@ lowest-is n p l =
     let w = trailing-lt 64 n p l in
     record { within = w; set = trailing-at 64 n w; least = trailing-low 64 n }
 
--- a shift drops the lowest bits
-place : (i j n : ℕ) → i ≡ j → bit i n ≡ bit j n
-place i j n q = ap (λ (k : ℕ). bit k n) q
-
 bit-suc : (i n : ℕ) → bit i (n / 2) ≡ bit (i + 1) n
 unfolding bit
-bit-suc i n = let q : suc i ≡ i + 1 = omega arith in place (suc i) (i + 1) n q
-
-pub bit-shr : (z n i : ℕ) → bit i (n / 2 ^ z) ≡ bit (i + z) n
-bit-shr zero n i =
-    let q : n / 2 ^ 0 ≡ n = omega arith in
-    let w : i ≡ i + 0 = omega arith in
-    ap (bit i) q ∙ place i (i + 0) n w
-bit-shr (suc z) n i =
-    let q : 1 + z ≡ suc z = omega arith in
-    let w : i + z + 1 ≡ i + suc z = omega arith in
-    ap (bit i) (sym (shr-shr n 1 z ∙ ap (λ (k : ℕ). n / 2 ^ k) q)) ∙ bit-shr z (n / 2) i ∙ bit-suc (i + z) n ∙ place (i + z + 1) (i + suc z) n w
-
-pub above-is : (z n i : ℕ) → bit i (n / 2 ^ z / 2 ^ 1) ≡ bit (i + 1 + z) n
-above-is z n i = bit-shr 1 (n / 2 ^ z) i ∙ bit-shr z n (i + 1)
+bit-suc i n = let q : suc i ≡ i + 1 = omega arith in ap (λ (k : ℕ). bit k n) q
 
 -- one more bit below
 pub below-low : (c x : ℕ) → x < 2 → bit 0 (2 * c + x) ≡ x

@@ -1,4 +1,4 @@
-// Words as sets of small numbers: the lowest, those after it, one more, those of two.
+// Words as sets of small numbers: the lowest, all but it, one more, those of two.
 ghost use mathlib.Core.Path.{_≡_};
 ghost use Prim.Native.Nat.{ℕ, _+_, _*_, _<_, min};
 ghost use Rattle.bits.specs.inner.Bits.{bit, Lowest, WithoutLowest, With, Packed};
@@ -9,14 +9,6 @@ pub fn lowest(c: u64) -> u32
     ensures { λ r. ⌜ Lowest c r ⌝ }
 {
     u64::trailing_zeros(c)
-}
-
-// The bits above bit z.
-pub fn above(c: u64, z: u32) -> u64
-    requires { ⌜ z < 64 ⌝ }
-    ensures { λ r. ⌜ ((i : ℕ) → bit i r ≡ bit (i + 1 + z) c) ⌝ }
-{
-    (c >> z) >> 1
 }
 
 // The word without its lowest set bit.

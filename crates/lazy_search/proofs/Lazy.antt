@@ -14,8 +14,7 @@ use Rattle.paths.proofs.Short.{chain-two, total-more}
 use Rattle.paths.proofs.Labels.{no-chain}
 use Rattle.geometry.specs.Words.{word}
 use Rattle.search.specs.inner.Keys.{unreached, weight, Vertex, Reaching, Keyed, Searched}
-use Rattle.search.proofs.Network.{Sized}
-use Rattle.search.proofs.Settling.{vertex-below, not-end, bound-small}
+use Rattle.search.proofs.Network.{Sized, vertex-below, not-end, bound-small}
 use Rattle.lazy_search.specs.inner.Lazy.{By, Exact, Eased}
 
 -- a lower bound of the cost from each vertex to the end, which no step makes less by more than it costs

@@ -9,6 +9,7 @@ ghost use Rattle.tables.specs.inner.Fit.{Fit};
 ghost use Rattle.adjacency.specs.inner.Adjacent.{Rows};
 ghost use Rattle.search.specs.Network.{ByBytes, graph};
 ghost use Rattle.search.specs.inner.Keys.{Searchable, Keyed};
+ghost use Rattle.search.specs.inner.Parts.{Places};
 ghost use Rattle.routing.specs.Routes.{RouteIs, Routed};
 ghost use Rattle.routing.specs.inner.Walking.{TightKey, Hop, Walked};
 
@@ -91,9 +92,17 @@ fn walk(
 }
 
 // Run m's route record, written into its own 197 words.
-pub fn route(blocks: &[u16], runs: &[u16], pairs: &[u8], adj: &[u64], m: usize, part: &mut [u32])
+pub fn route(
+    blocks: &[u16],
+    runs: &[u16],
+    places: &[u16],
+    pairs: &[u8],
+    adj: &[u64],
+    m: usize,
+    part: &mut [u32],
+)
     requires { ⌜ (Fit (stored (now blocks) (now runs))) × (length (now pairs) ≡ 28680) × (m < 24) × (length (now part) ≡ 197) ⌝ }
-    requires { ⌜ Rows (now blocks) (now pairs) (now adj) 576 ⌝ }
+    requires { ⌜ (Rows (now blocks) (now pairs) (now adj) 576) × (Places (stored (now blocks) (now runs)) (now places) 240) ⌝ }
     ensures { λ r. ⌜ RouteIs (stored (now (blocks .entry)) (now (runs .entry))) (ByBytes (now (pairs .entry))) m (now (part .exit)) ⌝ }
 {
     lists::fill32(part, 0);
@@ -101,7 +110,7 @@ pub fn route(blocks: &[u16], runs: &[u16], pairs: &[u8], adj: &[u64], m: usize, 
         return;
     }
     let mut key = [4000000000u32; 240];
-    if search::settle(blocks, runs, pairs, adj, m, &mut key) {
+    if settling::settle(blocks, runs, places, pairs, adj, m, &mut key) {
         let n = walk(blocks, runs, pairs, m, &key, part);
         part[0] = 1;
         part[1] = key[192 + 2 * m] / 256;
@@ -116,13 +125,15 @@ pub fn all_routes(blocks: &[u16], runs: &[u16], pairs: &[u8], routes: &mut [u32]
     requires { ⌜ (Fit (stored (now blocks) (now runs))) × (length (now pairs) ≡ 28680) × (length (now routes) ≡ 4728) ⌝ }
     ensures { λ r. ⌜ Routed (stored (now (blocks .entry)) (now (runs .entry))) (now (pairs .entry)) (now (routes .exit)) ⌝ }
 {
+    let mut places = [0u16; 480];
+    search::list_places(blocks, runs, &mut places);
     let mut adj = [0u64; 576];
     adjacency::fill_rows(blocks, pairs, &mut adj);
     let mut m = 0;
     while m < 24 {
         let at = 197 * m;
         let end = at + 197;
-        route(blocks, runs, pairs, &adj, m, &mut routes[at..end]);
+        route(blocks, runs, &places, pairs, &adj, m, &mut routes[at..end]);
         m += 1;
     }
 }
@@ -131,17 +142,18 @@ pub fn all_routes(blocks: &[u16], runs: &[u16], pairs: &[u8], routes: &mut [u32]
 fn route_right(
     blocks: &[u16],
     runs: &[u16],
+    places: &[u16],
     pairs: &[u8],
     adj: &[u64],
     part: &[u32],
     m: usize,
 ) -> bool
     requires { ⌜ (Fit (stored (now blocks) (now runs))) × (length (now pairs) ≡ 28680) × (m < 24) × (length (now part) ≡ 197) ⌝ }
-    requires { ⌜ Rows (now blocks) (now pairs) (now adj) 576 ⌝ }
+    requires { ⌜ (Rows (now blocks) (now pairs) (now adj) 576) × (Places (stored (now blocks) (now runs)) (now places) 240) ⌝ }
     ensures { λ r. ⌜ Tells (RouteIs (stored (now (blocks .entry)) (now (runs .entry))) (ByBytes (now (pairs .entry))) m (now (part .entry))) r ⌝ }
 {
     let mut due = [0u32; 197];
-    route(blocks, runs, pairs, adj, m, &mut due);
+    route(blocks, runs, places, pairs, adj, m, &mut due);
     lists::same_words(part, &due)
 }
 
@@ -150,13 +162,15 @@ pub fn routes_right(blocks: &[u16], runs: &[u16], pairs: &[u8], routes: &[u32]) 
     requires { ⌜ (Fit (stored (now blocks) (now runs))) × (length (now pairs) ≡ 28680) × (length (now routes) ≡ 4728) ⌝ }
     ensures { λ r. ⌜ Tells (Routed (stored (now (blocks .entry)) (now (runs .entry))) (now (pairs .entry)) (now (routes .entry))) r ⌝ }
 {
+    let mut places = [0u16; 480];
+    search::list_places(blocks, runs, &mut places);
     let mut adj = [0u64; 576];
     adjacency::fill_rows(blocks, pairs, &mut adj);
     let mut k = 0;
     while k < 24 {
         let at = 197 * k;
         let end = at + 197;
-        if !route_right(blocks, runs, pairs, &adj, &routes[at..end], k) {
+        if !route_right(blocks, runs, &places, pairs, &adj, &routes[at..end], k) {
             return false;
         }
         k += 1;

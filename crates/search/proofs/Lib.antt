@@ -4,5 +4,3 @@ pub mod Relaxing
 pub mod Steps
 pub mod Network
 pub mod LowerBounds
-pub mod Settling
-pub mod States

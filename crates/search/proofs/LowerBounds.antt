@@ -90,6 +90,11 @@ unfolding atLeast
 at-least-is p q x y hi s e n h k =
     rw (k, h, smaller x y, e, n) refl
 
+-- no bound is large
+pub at-least-small : (x y hi s : ℕ) → x ≤ 65535 → y ≤ 65535 → hi ≡ max x y → s ≡ projection hi (x + y - hi) → 256 * (s / 256) ≤ 23723670
+unfolding projection
+at-least-small x y hi s a b h k = omega (arith, k)
+
 pub bound-is : (R : Records) (start v : ℕ) (p q : Point) (x : ℕ) → p ≡ placeOf R start → q ≡ placeOf R v → x ≡ 256 * atLeast p q → x ≡ 256 * lowerBound R start v
 unfolding lowerBound
 bound-is R start v p q x e f h = h ∙ ap (λ (o : Point). 256 * atLeast o q) e ∙ ap (λ (o : Point). 256 * atLeast (placeOf R start) o) f

@@ -1,5 +1,6 @@
 -- The graph that a run is routed in: where its marks are numbered, what its straights cost, and that this is their length where the figure is 0.
-use mathlib.Core.Path.{_≡_, ap}
+use mathlib.Core.Path.{_≡_, sym, ap, _∙_}
+use mathlib.Core.Logic.{inl, inr}
 use mathlib.Core.Bool.{true, and-eq-true-iff}
 use mathlib.Core.List.{List}
 use Prim.Native.Nat.{ℕ, _*_, _%_, _/_, _<_, _≤_}
@@ -7,6 +8,7 @@ use native.Mathlib.Omega.{arith}
 use lib.Dec.{ltb}
 use borrow.Author.Tests.{ltb-true}
 use Rattle.paths.specs.Path.{Graph, total, IsRoute}
+use Rattle.paths.specs.inner.LowerBound.{ConsistentBound}
 use Rattle.geometry.specs.Words.{word}
 use Rattle.lengths.specs.Length.{lengthOf}
 use Rattle.lengths.proofs.Roots.{length-bound}
@@ -15,6 +17,7 @@ use Rattle.tables.specs.Tables.{Records, figureOf, isCorner, placeOf, firstEnd,
 use Rattle.tables.specs.inner.Fit.{Fit}
 use Rattle.tables.proofs.Marks.{place-in-range}
 use Rattle.search.specs.Network.{cost, graph, plainGraph}
+use Rattle.search.specs.inner.Keys.{Vertex}
 
 pub corner-below : (blocks : List ℕ) (u : ℕ) → isCorner blocks u ≡ true → u < 192
 unfolding isCorner
@@ -42,6 +45,18 @@ sized R Clear m f l =
       end-below = omega arith;
       apart = λ e. omega arith;
     }
+
+module _ {G : Graph} {start end : ℕ} (z : Sized G start end) where
+  pub vertex-below : (v : ℕ) → Vertex G start v → v < 240
+  vertex-below v (inl q) = omega (arith, z .start-below)
+  vertex-below v (inr i) = omega (arith, z .inner-below v i)
+
+  pub not-end : (v : ℕ) → Vertex G start v → v ≡ end → ⊥
+  not-end v (inl q) e = z .apart (sym q ∙ e)
+  not-end v (inr i) e = omega (arith, z .inner-below v i, z .end-above)
+
+  pub bound-small : {bound : ℕ → ℕ} → ConsistentBound G start bound → (v : ℕ) → v < 240 → bound v ≤ 46340
+  bound-small a v l = omega (arith, a .step start v, a .none, z .cost-small start v (z .start-below) l)
 
 -- under the figure 0 the graph is that of the lengths
 module _ (R : Records) (Clear : ℕ → ℕ → Type 0) (none : figureOf (R .runs) ≡ 0) where

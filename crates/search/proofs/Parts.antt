@@ -2,7 +2,7 @@
 use mathlib.Core.Path.{_≡_, refl, sym, ap, _∙_, subst}
 use mathlib.Core.Logic.{_⊎_, inl, inr, ⊎-elim}
 use mathlib.Core.List.{List}
-use Prim.Native.Nat.{ℕ, _-_, _<_, _≤_, min}
+use Prim.Native.Nat.{ℕ, _+_, _*_, _-_, _<_, _≤_, min}
 use native.Mathlib.Decide.{ℕ-discrete, decLt}
 use native.Mathlib.Omega.{arith}
 use lib.ListN.{length, set, length-set}
@@ -116,14 +116,18 @@ lowered-one {key} {P} {most} {v} {new} l e p only =
     came w (yes q) = subst Came (sym q) (at-v (decLt (most v) (word key v)))
     came w (no q) = inl (there w q)
 
+lowered-kept : {key : List ℕ} {P : ℕ → Type 0} {most : ℕ → ℕ} {v : ℕ} → word key v ≤ most v → ((x : ℕ) → P x → x ≡ v) → Lowered key key P most
+lowered-kept {key} {P} {most} {v} l only =
+    record { same = refl; down = λ x. omega arith; short = λ x q. omega (arith, l, ap (word key) (only x q), ap most (only x q)); came = λ x. inl refl }
+
 -- one pass after another
 
-module _ {most : ℕ → ℕ} {W S K : List ℕ} {n : ℕ} where
-  pub passed-none : {P : ℕ → Type 0} {u : ℕ} → Parted W S K u n → ((v : ℕ) → Open W n v → P v → ⊥) → Passed most P W S K W S K u n
+module _ {bound most : ℕ → ℕ} {W S K : List ℕ} {n : ℕ} where
+  pub passed-none : {P : ℕ → Type 0} {T : List ℕ} {u : ℕ} → Parted bound W S K T u n → ((v : ℕ) → Open W n v → P v → ⊥) → Passed bound most P W S K W S K T u n
   passed-none p h = record { parted = p; sorted = resorted-none; keys = lowered-none (λ v q. h v (q .0) (q .1)) }
 
-  pub passed-both : {P Q : ℕ → Type 0} {W′ S′ K′ W″ S″ K″ : List ℕ} {u u′ : ℕ} → Passed most P W S K W′ S′ K′ u n → Passed most Q W′ S′ K′ W″ S″ K″ u′ n
-      → Passed most (λ v. P v ⊎ Q v) W S K W″ S″ K″ u′ n
+  pub passed-both : {P Q : ℕ → Type 0} {W′ S′ K′ T′ W″ S″ K″ T″ : List ℕ} {u u′ : ℕ} → Passed bound most P W S K W′ S′ K′ T′ u n → Passed bound most Q W′ S′ K′ W″ S″ K″ T″ u′ n
+      → Passed bound most (λ v. P v ⊎ Q v) W S K W″ S″ K″ T″ u′ n
   passed-both a b =
       record {
         parted = b .parted;
@@ -132,26 +136,47 @@ module _ {most : ℕ → ℕ} {W S K : List ℕ} {n : ℕ} where
             (λ v q. ⊎-elim (λ p. inl (q .0, p)) (λ p. inr (a .sorted .onward v (q .0), p)) (q .1)) (lowered-both (a .keys) (b .keys));
       }
 
-  pub passed-under : {P Q : ℕ → Type 0} {W′ S′ K′ : List ℕ} {u : ℕ} → ((v : ℕ) → P v → Q v) → ((v : ℕ) → Open W n v → Q v → P v) → Passed most P W S K W′ S′ K′ u n
-      → Passed most Q W S K W′ S′ K′ u n
+  pub passed-under : {P Q : ℕ → Type 0} {W′ S′ K′ T′ : List ℕ} {u : ℕ} → ((v : ℕ) → P v → Q v) → ((v : ℕ) → Open W n v → Q v → P v) → Passed bound most P W S K W′ S′ K′ T′ u n
+      → Passed bound most Q W S K W′ S′ K′ T′ u n
   passed-under to from a =
       record { parted = a .parted; sorted = a .sorted; keys = lowered-under (λ v p. (p .0, to v (p .1))) (λ v q. (q .0, from v (q .0) (q .1))) (a .keys) }
 
+-- a mark that is waiting has its sum, or is not reached
+module _ {bound : ℕ → ℕ} {W S K T : List ℕ} {u n v : ℕ} (p : Parted bound W S K T u n) (h : Here W S v) where
+  pub sum-of : word S v < n → u ≤ word S v → word T (word S v) ≡ word K v + 256 * bound v
+  sum-of l g = omega (arith, p .sum (word S v) g l, ap (word K) h, ap bound h)
+
+  pub fresh-key : word S v < u → word K v ≡ unreached
+  fresh-key g = ap (word K) (sym h) ∙ p .fresh (word S v) g
+
 -- one mark is relaxed
-module _ (most : ℕ → ℕ) {W S K : List ℕ} {u n v : ℕ} (p : Parted W S K u n) (h : Here W S v) where
-  pub passed-settled : n ≤ word S v → Passed most (λ x. x ≡ v) W S K W S K u n
+module _ {bound : ℕ → ℕ} (most : ℕ → ℕ) {W S K T : List ℕ} {u n v : ℕ} (p : Parted bound W S K T u n) (h : Here W S v) where
+  pub passed-settled : n ≤ word S v → Passed bound most (λ x. x ≡ v) W S K W S K T u n
   passed-settled l = passed-none p (λ x o e. omega (arith, spot-is W S n x (p .inverse) o, o .within, ap (word S) e))
+
+  pub passed-kept : word K v ≤ most v → Passed bound most (λ x. x ≡ v) W S K W S K T u n
+  passed-kept l = record { parted = p; sorted = resorted-none; keys = lowered-kept l (λ x q. q .1) }
 
   module _ {new : ℕ} (below : v < 240) (e : new ≡ min (word K v) (most v)) (l : word S v < n) where
     keys : Lowered K (set K v new) (λ x. Open W n x × (x ≡ v)) most
     keys = lowered-one (omega (arith, p .keyed)) e (here-open W S n v h l, refl) (λ x q. q .1)
 
-    -- the other marks that are not reached stay so
-    still-fresh : (j : ℕ) → j < u → (j ≡ word S v → ⊥) → word (set K v new) (word W j) ≡ unreached
-    still-fresh j b ne = getD-set-other K v (word W j) new 0 (λ q. ne (sym (p .inverse j (omega (arith, p .low))) ∙ ap (word S) q)) ∙ p .fresh j b
+    -- the key of v is new, those of the other marks stay
+    key-new : (x : ℕ) → x ≡ v → word (set K v new) x ≡ new
+    key-new x q = ap (word (set K v new)) q ∙ getD-set-same K v new 0 (omega (arith, p .keyed))
 
-    pub passed-reached : u ≤ word S v → Passed most (λ x. x ≡ v) W S K W S (set K v new) u n
-    passed-reached g =
+    key-kept : (j : ℕ) → j < n → (j ≡ word S v → ⊥) → word (set K v new) (word W j) ≡ word K (word W j)
+    key-kept j b ne = getD-set-other K v (word W j) new 0 (λ q. ne (sym (p .inverse j b) ∙ ap (word S) q))
+
+    still-fresh : (j : ℕ) → j < u → (j ≡ word S v → ⊥) → word (set K v new) (word W j) ≡ unreached
+    still-fresh j b ne = key-kept j (omega (arith, p .low)) ne ∙ p .fresh j b
+
+    -- the sum at a place is written, for a mark x there
+    abbrev Sum : List ℕ → ℕ → ℕ → Type 0
+    Sum T′ j x = word T′ j ≡ word (set K v new) x + 256 * bound x
+
+    pub passed-reached : {sum : ℕ} → u ≤ word S v → sum ≡ word T (word S v) - (word K v - new) → Passed bound most (λ x. x ≡ v) W S K W S (set K v new) (set T (word S v) sum) u n
+    passed-reached {sum} g s =
         record {
           parted =
               record {
@@ -163,13 +188,23 @@ module _ (most : ℕ → ℕ) {W S K : List ℕ} {u n v : ℕ} (p : Parted W S K
                 marks = p .marks;
                 inverse = p .inverse;
                 fresh = λ j b. still-fresh j b (omega arith);
+                summed = length-set T (word S v) sum ∙ p .summed;
+                sum = λ j a b. sums j a b (ℕ-discrete j (word S v));
               };
           sorted = resorted-none;
           keys = keys;
         }
+      where
+        sums : (j : ℕ) → u ≤ j → j < n → Dec (j ≡ word S v) → Sum (set T (word S v) sum) j (word W j)
+        sums j a b (yes q) =
+            let w : word W j ≡ v = ap (word W) q ∙ h in
+            let t : word (set T (word S v) sum) j ≡ sum = ap (word (set T (word S v) sum)) q ∙ getD-set-same T (word S v) sum 0 (omega (arith, p .summed, p .few)) in
+            omega (arith, t, s, e, sum-of p h l g, key-new (word W j) w, ap bound w)
+        sums j a b (no q) = getD-set-other T (word S v) j sum 0 q ∙ p .sum j a b ∙ ap (λ (k : ℕ). k + 256 * bound (word W j)) (sym (key-kept j b q))
 
-    pub passed-fresh : {W′ S′ : List ℕ} → word S v < u → Exchanged W S W′ S′ (word S v) (u - 1) → Passed most (λ x. x ≡ v) W S K W′ S′ (set K v new) (u - 1) n
-    passed-fresh {W′} {S′} g x =
+    pub passed-fresh : {W′ S′ : List ℕ} {sum : ℕ} → word S v < u → Exchanged W S W′ S′ (word S v) (u - 1) → sum ≡ new + 256 * bound v
+        → Passed bound most (λ x. x ≡ v) W S K W′ S′ (set K v new) (set T (u - 1) sum) (u - 1) n
+    passed-fresh {W′} {S′} {sum} g x s =
         record {
           parted =
               record {
@@ -181,6 +216,8 @@ module _ (most : ℕ → ℕ) {W S K : List ℕ} {u n v : ℕ} (p : Parted W S K
                 marks = swapped-marks x (p .inverse) l last (p .marks);
                 inverse = swapped-inverse x (p .inverse) l last;
                 fresh = λ j b. fresh j b (ℕ-discrete j (word S v));
+                summed = length-set T (u - 1) sum ∙ p .summed;
+                sum = λ j a b. sums j a b (ℕ-discrete j (u - 1));
               };
           sorted = swapped-resorted x (p .inverse) l last;
           keys = keys;
@@ -192,6 +229,50 @@ module _ (most : ℕ → ℕ) {W S K : List ℕ} {u n v : ℕ} (p : Parted W S K
         fresh : (j : ℕ) → j < u - 1 → Dec (j ≡ word S v) → word (set K v new) (word W′ j) ≡ unreached
         fresh j b (yes q) = ap (word (set K v new)) (ap (word W′) q ∙ x .list .first) ∙ still-fresh (u - 1) (omega arith) (omega arith)
         fresh j b (no q) = ap (word (set K v new)) (x .list .others j q (omega arith)) ∙ still-fresh j (omega arith) q
+
+        sums : (j : ℕ) → u - 1 ≤ j → j < n → Dec (j ≡ u - 1) → Sum (set T (u - 1) sum) j (word W′ j)
+        sums j a b (yes q) =
+            let w : word W′ j ≡ v = ap (word W′) q ∙ x .list .second ∙ h in
+            let t : word (set T (u - 1) sum) j ≡ sum = ap (word (set T (u - 1) sum)) q ∙ getD-set-same T (u - 1) sum 0 (omega (arith, p .summed, p .few)) in
+            omega (arith, t, s, key-new (word W′ j) w, ap bound w)
+        sums j a b (no q) =
+            let i : word W′ j ≡ word W j = x .list .others j (omega arith) q in
+            let t = p .sum j (omega arith) b in
+            omega (arith, getD-set-other T (u - 1) j sum 0 q, t, key-kept j b (omega arith), ap (word (set K v new)) i, ap bound i)
+
+-- the same under other bounds and other keys by the way, where those of marks are the same
+pub parted-as : {bound bound′ : ℕ → ℕ} {W S K T : List ℕ} {u n : ℕ} → ((v : ℕ) → v < 240 → bound v ≡ bound′ v) → Parted bound W S K T u n → Parted bound′ W S K T u n
+parted-as {W = W} {K = K} b p =
+    record {
+      sized = p .sized;
+      spots = p .spots;
+      keyed = p .keyed;
+      low = p .low;
+      few = p .few;
+      marks = p .marks;
+      inverse = p .inverse;
+      fresh = p .fresh;
+      summed = p .summed;
+      sum = λ j f h. p .sum j f h ∙ ap (λ (k : ℕ). word K (word W j) + 256 * k) (b (word W j) (p .marks j h));
+    }
+
+pub passed-as : {bound bound′ most most′ : ℕ → ℕ} {P : ℕ → Type 0} {W S K W′ S′ K′ T′ : List ℕ} {u n : ℕ} → ((v : ℕ) → v < 240 → bound v ≡ bound′ v) → ((v : ℕ) → v < 240 → most v ≡ most′ v)
+    → Passed bound most P W S K W′ S′ K′ T′ u n → Passed bound′ most′ P W S K W′ S′ K′ T′ u n
+passed-as {most = most} {most′ = most′} {P = P} {W = W} {n = n} b m x =
+    record {
+      parted = parted-as b (x .parted);
+      sorted = x .sorted;
+      keys =
+          record {
+            same = x .keys .same;
+            down = x .keys .down;
+            short = λ v p. omega (arith, x .keys .short v p, here v p);
+            came = λ v. ⊎-elim (λ e. inl e) (λ p. inr (p .0, p .1 ∙ here v (p .0))) (x .keys .came v);
+          };
+    }
+  where
+    here : (v : ℕ) → Open W n v × P v → most v ≡ most′ v
+    here v p = let o = x .sorted .onward v (p .0) in m v (omega (arith, x .parted .marks (o .place) (o .within), o .is))
 
 -- what the code of an exchange does
 pub exchanged : (W S : List ℕ) (i j : ℕ) → i < length W → j < length W → word W i < length S → word W j < length S → word S (word W i) ≡ i → word S (word W j) ≡ j

@@ -1,23 +1,22 @@
--- A settled mark's row, relaxed word by word, and the first end apart.
+-- A settled mark's row and the first end, relaxed word by word.
 use mathlib.Core.Path.{_≡_, sym, ap, _∙_, subst}
-use mathlib.Core.Logic.{_⊎_, inl, inr, ⊎-elim}
+use mathlib.Core.Logic.{_⊎_, inl, inr}
 use mathlib.Core.List.{List}
 use Prim.Native.Nat.{ℕ, _+_, _*_, _-_, _/_, _%_, _^_, _<_, _≤_}
-use native.Mathlib.Decide.{decLt}
+use native.Mathlib.Decide.{ℕ-discrete, decLt}
 use native.Mathlib.Omega.{arith}
+use borrow.Author.Tests.{lt-ltb, le-ltb, ne-eqb}
 use lib.ListN.{length, take, drop, set, length-set}
 use lib.Seq.{getD-set-same, getD-set-other}
 use Rattle.geometry.specs.Words.{word}
 use Rattle.bits.specs.inner.Bits.{bit}
+use Rattle.bits.proofs.Counting.{bit-zero, bit-low}
 use Rattle.tables.specs.Tables.{pairByte}
 use Rattle.tables.proofs.Splices.{part-word, part-length}
 use Rattle.adjacency.specs.inner.Adjacent.{Adjacent, Shows, Rows}
-use Rattle.search.specs.Network.{ByBytes}
-use Rattle.search.specs.inner.Keys.{Open}
-use Rattle.search.specs.inner.Parts.{Here, Bends, Parted, Passed, Marked, Row}
+use Rattle.search.specs.inner.Parts.{Here, Bend, Bends, Parted, Passed, Marked, Row, nearWord, nearBase, Seen}
 use Rattle.search.proofs.Network.{corner-below}
 use Rattle.search.proofs.Parts.{passed-none, passed-both, passed-under}
-use Rattle.search.proofs.Words.{bit-low}
 
 -- the words of a row, written one by one
 pub row-none : (blocks pairs row : List ℕ) (v : ℕ) → length row ≡ 3 → Row blocks pairs row v 0
@@ -52,62 +51,110 @@ row-lent blocks pairs adj s r l =
         let a₂ = subst (λ (k : ℕ). Shows (Adjacent blocks pairs s (64 * k + i)) (bit i (word adj (3 * s + q)))) m a₁ in
         subst (λ (k : ℕ). Shows (Adjacent blocks pairs s (64 * q + i)) (bit i k)) (sym (part-word adj (3 * s) 3 q h)) a₂
 
--- the corners near s that are below 64 q
-abbrev pub Below : List ℕ → List ℕ → ℕ → ℕ → ℕ → Type 0
-Below blocks pairs s q v = Adjacent blocks pairs s v × (v < 64 * q)
+-- v is near s by word q: a corner of the row, or the first end
+abbrev pub NearBy : List ℕ → List ℕ → ℕ → ℕ → ℕ → ℕ → Type 0
+NearBy blocks pairs s first q v =
+    ((q < 3) × Adjacent blocks pairs s v × (64 * q ≤ v) × (v < 64 * q + 64)) ⊎ ((q ≡ 3) × (v ≡ first) × (pairByte pairs first s ≡ 254))
 
-pub below-none : {most : ℕ → ℕ} {blocks pairs : List ℕ} {s : ℕ} {W S K : List ℕ} {u n : ℕ} → Parted W S K u n → Passed most (Below blocks pairs s 0) W S K W S K u n
-below-none p = passed-none p (λ v o m. omega (arith, m .1))
+-- v is near s by a word before q
+pub record NearBefore (blocks pairs : List ℕ) (s first q v : ℕ) : Type 0 where
+  pub word′ : ℕ
+  pub before : word′ < q
+  pub near : NearBy blocks pairs s first word′ v
 
-module _ {blocks pairs row : List ℕ} {s : ℕ} (r : Row blocks pairs row s 3) where
-  marked-near : {q : ℕ} → q < 3 → word row q < 2 ^ 64 → (v : ℕ) → Marked (word row q) (64 * q) v → Adjacent blocks pairs s v × (v < 64 * (q + 1))
-  marked-near {q} l b v m =
-      let i = bit-low 64 (word row q) (m .at) b (m .set) in
-      (subst (Adjacent blocks pairs s) (m .is) (r .each q l (m .at) i .yes′ (m .set)), omega (arith, m .is))
+-- the four words, and the marks of their lowest bits
+module _ (pairs row : List ℕ) (first s q : ℕ) where
+  pub row-word : q < 3 → word row q ≡ nearWord pairs row first s q
+  unfolding nearWord
+  row-word h = rw (lt-ltb q 3 h)
 
-  pub marked-here : {first : ℕ} {W S : List ℕ} {n q : ℕ} → Bends blocks first W S n → q < 3 → word row q < 2 ^ 64 → (v : ℕ) → Marked (word row q) (64 * q) v → (v < 240) × Here W S v
-  marked-here d l b v m =
-      let a = marked-near l b v m .0 in
-      (omega (arith, corner-below blocks v (a .present)), d .all v (inr (a .present)))
+  pub first-word : 3 ≤ q → pairByte pairs first s ≡ 254 → 1 ≡ nearWord pairs row first s q
+  unfolding nearWord
+  first-word h e = rw (le-ltb q 3 h, e)
 
-  module _ {most : ℕ → ℕ} {W S K W′ S′ K′ : List ℕ} {u n q : ℕ} (x : Passed most (Below blocks pairs s q) W S K W′ S′ K′ u n) where
-    pub below-next : {W″ S″ K″ : List ℕ} {u′ : ℕ} → q < 3 → word row q < 2 ^ 64 → Passed most (Marked (word row q) (64 * q)) W′ S′ K′ W″ S″ K″ u′ n
-        → Passed most (Below blocks pairs s (q + 1)) W S K W″ S″ K″ u′ n
-    below-next l b y = passed-under to (λ v o m. from v m (decLt v (64 * q))) (passed-both x y)
-      where
-        to : (v : ℕ) → Below blocks pairs s q v ⊎ Marked (word row q) (64 * q) v → Below blocks pairs s (q + 1) v
-        to v (inl m) = (m .0, omega (arith, m .1))
-        to v (inr m) = marked-near l b v m
+  pub no-word : 3 ≤ q → (pairByte pairs first s ≡ 254 → ⊥) → 0 ≡ nearWord pairs row first s q
+  unfolding nearWord
+  no-word h e = rw (le-ltb q 3 h, ne-eqb (pairByte pairs first s) 254 e)
 
-        from : (v : ℕ) → Below blocks pairs s (q + 1) v → Dec (v < 64 * q) → Below blocks pairs s q v ⊎ Marked (word row q) (64 * q) v
-        from v m (yes h) = inl (m .0, h)
-        from v m (no h) =
-            let e : 64 * q + (v - 64 * q) ≡ v = omega arith in
-            let a = subst (Adjacent blocks pairs s) (sym e) (m .0) in
-            inr (record { at = v - 64 * q; is = e; set = r .each q l (v - 64 * q) (omega (arith, m .1)) .no′ a })
+pub row-base : (first q : ℕ) → q < 3 → 64 * q ≡ nearBase first q
+unfolding nearBase
+row-base first q h = rw (lt-ltb q 3 h)
 
--- the straight from v to s is an edge
-abbrev Edge : List ℕ → ℕ → ℕ → Type 0
-Edge pairs s v = (v ≡ s → ⊥) × ByBytes pairs v s
+pub first-base : (first q : ℕ) → 3 ≤ q → first ≡ nearBase first q
+unfolding nearBase
+first-base first q h = rw (le-ltb q 3 h)
 
--- all near corners are relaxed
-module _ {blocks pairs : List ℕ} {s first : ℕ} {most : ℕ → ℕ} {W S K W′ S′ K′ : List ℕ} {u n q : ℕ} (d : Bends blocks first W S n) (h : 3 ≤ q)
-    (x : Passed most (Below blocks pairs s q) W S K W′ S′ K′ u n) where
-  near : (v : ℕ) → Below blocks pairs s q v → Edge pairs s v
-  near v m = (m .0 .differ, m .0 .clear)
+bit-one : bit 0 1 ≡ 1
+unfolding bit
+bit-one = omega arith
 
-  far : (v : ℕ) → Open W n v → Edge pairs s v → (v ≡ first) ⊎ Below blocks pairs s q v
-  far v o e = ⊎-elim (λ f. inl f) (λ c. inr (record { present = c; differ = e .0; clear = e .1 }, omega (arith, corner-below blocks v c))) (d .only v o)
-
-  -- the first end is hidden from s
-  pub first-hidden : (pairByte pairs first s ≡ 254 → ⊥) → Passed most (Edge pairs s) W S K W′ S′ K′ u n
-  first-hidden z = passed-under near (λ v o e. ⊎-elim (λ f. absurd (z (ap (λ (k : ℕ). pairByte pairs k s) (sym f) ∙ e .1))) (λ m. m) (far v o e)) x
-
-  -- or is relaxed too
-  pub first-seen : {W″ S″ K″ : List ℕ} {u′ : ℕ} → (first ≡ s → ⊥) → pairByte pairs first s ≡ 254 → Passed most (λ v. v ≡ first) W′ S′ K′ W″ S″ K″ u′ n
-      → Passed most (Edge pairs s) W S K W″ S″ K″ u′ n
-  first-seen ne z y = passed-under (λ v. to v) (λ v o e. ⊎-elim (λ f. inr f) (λ m. inl m) (far v o e)) (passed-both x y)
+-- a word's bits are those of the marks near s by it
+module _ {blocks pairs row : List ℕ} {s first : ℕ} (r : Row blocks pairs row s 3) {q w base : ℕ} (low : w < 2 ^ 64) (a : w ≡ nearWord pairs row first s q) (b : base ≡ nearBase first q) where
+  pub marked-near : q < 4 → (v : ℕ) → Marked w base v → NearBy blocks pairs s first q v
+  marked-near l v m = elim (decLt q 3) [ yes h ↦ inl (in-row h) | no h ↦ let f = the-first h (ℕ-discrete (pairByte pairs first s) 254) in inr (omega arith, f .0, f .1) ]
     where
-      to : (v : ℕ) → Below blocks pairs s q v ⊎ (v ≡ first) → Edge pairs s v
-      to v (inl m) = near v m
-      to v (inr f) = subst (Edge pairs s) (sym f) (ne, z)
+      in-row : q < 3 → (q < 3) × Adjacent blocks pairs s v × (64 * q ≤ v) × (v < 64 * q + 64)
+      in-row h =
+          let k = row-base first q h in
+          let i = bit-low 64 w (m .at) low (m .set) in
+          let e : 64 * q + m .at ≡ v = omega (arith, m .is) in
+          let x : bit (m .at) (word row q) ≡ 1 = ap (bit (m .at)) (row-word pairs row first s q h ∙ sym a) ∙ m .set in
+          (h, subst (Adjacent blocks pairs s) e (r .each q h (m .at) i .yes′ x), omega arith, omega arith)
+
+      the-first : (q < 3 → ⊥) → Dec (pairByte pairs first s ≡ 254) → (v ≡ first) × (pairByte pairs first s ≡ 254)
+      the-first h (yes e) =
+          let o : w ≡ 1 = a ∙ sym (first-word pairs row first s q (omega arith) e) in
+          let z = bit-low 1 w (m .at) (omega arith) (m .set) in
+          (omega (arith, m .is, first-base first q (omega arith)), e)
+      the-first h (no e) =
+          let o : w ≡ 0 = a ∙ sym (no-word pairs row first s q (omega arith) e) in
+          absurd (omega (arith, m .set, ap (bit (m .at)) o, bit-zero (m .at)))
+
+  pub near-marked : (v : ℕ) → NearBy blocks pairs s first q v → Marked w base v
+  near-marked v (inl n) =
+      let k = row-base first q (n .0) in
+      let e : 64 * q + (v - 64 * q) ≡ v = omega (arith, n .2) in
+      let x = r .each q (n .0) (v - 64 * q) (omega (arith, n .2, n .3)) .no′ (subst (Adjacent blocks pairs s) (sym e) (n .1)) in
+      record { at = v - 64 * q; is = omega (arith, n .2); set = ap (bit (v - 64 * q)) (a ∙ sym (row-word pairs row first s q (n .0))) ∙ x }
+  near-marked v (inr n) =
+      let h : 3 ≤ q = omega (arith, n .0) in
+      record { at = 0; is = omega (arith, n .1, first-base first q h); set = ap (bit 0) (a ∙ sym (first-word pairs row first s q h (n .2))) ∙ bit-one }
+
+-- the marks near s are relaxed word by word
+module _ {bound most : ℕ → ℕ} {blocks pairs : List ℕ} {s first : ℕ} where
+  pub near-none : {W S K T : List ℕ} {u n : ℕ} → Parted bound W S K T u n → Passed bound most (NearBefore blocks pairs s first 0) W S K W S K T u n
+  near-none p = passed-none p (λ v o m. omega (arith, m .before))
+
+  module _ {W S K W′ S′ K′ T′ : List ℕ} {u n q : ℕ} (x : Passed bound most (NearBefore blocks pairs s first q) W S K W′ S′ K′ T′ u n) where
+    pub near-next : {w base : ℕ} {W″ S″ K″ T″ : List ℕ} {u′ : ℕ} → ((v : ℕ) → Marked w base v → NearBy blocks pairs s first q v) → ((v : ℕ) → NearBy blocks pairs s first q v → Marked w base v)
+        → Passed bound most (Marked w base) W′ S′ K′ W″ S″ K″ T″ u′ n → Passed bound most (NearBefore blocks pairs s first (q + 1)) W S K W″ S″ K″ T″ u′ n
+    near-next {w} {base} f g y = passed-under to (λ v o m. from v m (decLt (m .word′) q)) (passed-both x y)
+      where
+        to : (v : ℕ) → NearBefore blocks pairs s first q v ⊎ Marked w base v → NearBefore blocks pairs s first (q + 1) v
+        to v (inl m) = record { word′ = m .word′; before = omega (arith, m .before); near = m .near }
+        to v (inr m) = record { word′ = q; before = omega arith; near = f v m }
+
+        from : (v : ℕ) → (m : NearBefore blocks pairs s first (q + 1) v) → Dec (m .word′ < q) → NearBefore blocks pairs s first q v ⊎ Marked w base v
+        from v m (yes h) = inl (record { word′ = m .word′; before = h; near = m .near })
+        from v m (no h) =
+            let e : m .word′ ≡ q = omega (arith, m .before) in
+            inr (g v (subst (λ (k : ℕ). NearBy blocks pairs s first k v) e (m .near)))
+
+    -- all four words are done
+    pub near-all : 4 ≤ q → (first ≡ s → ⊥) → Bends blocks first W S n → Passed bound most (Seen pairs s) W S K W′ S′ K′ T′ u n
+    near-all l ne d = passed-under (λ v m. to v (m .near)) (λ v o e. from v e (d .only v o)) x
+      where
+        to : {k : ℕ} (v : ℕ) → NearBy blocks pairs s first k v → Seen pairs s v
+        to v (inl m) = (m .1 .differ, m .1 .clear)
+        to v (inr m) = subst (Seen pairs s) (sym (m .1)) (ne, m .2)
+
+        from : (v : ℕ) → Seen pairs s v → Bend blocks first v → NearBefore blocks pairs s first q v
+        from v e (inl f) = record { word′ = 3; before = omega arith; near = inr (omega arith, f, ap (λ (k : ℕ). pairByte pairs k s) (sym f) ∙ e .1) }
+        from v e (inr c) =
+            let h = corner-below blocks v c in
+            record { word′ = v / 64; before = omega arith; near = inl (omega arith, record { present = c; differ = e .0; clear = e .1 }, omega arith, omega arith) }
+
+-- what word q asks of the list
+pub near-here : {blocks pairs W S : List ℕ} {s first n q : ℕ} → Bends blocks first W S n → first < 240 → (v : ℕ) → NearBy blocks pairs s first q v → (v < 240) × Here W S v
+near-here {blocks} d l v (inl m) = (omega (arith, corner-below blocks v (m .1 .present)), d .all v (inr (m .1 .present)))
+near-here d l v (inr m) = (omega (arith, m .1), d .all v (inl (m .1)))

@@ -10,15 +10,38 @@ use lib.Dec.{ltb}
 use borrow.Author.Tests.{ltb-true, ltb-false}
 use lib.ListN.{length, set, replicate, length-set, length-replicate}
 use lib.Seq.{getD-set-same, getD-set-other}
-use Rattle.geometry.specs.Words.{Point, word}
+use Rattle.geometry.specs.Words.{Point, point, word, placeAt}
 use Rattle.lengths.specs.Length.{rootUp, squared, lengthOf}
 use Rattle.lengths.specs.Charge.{charge}
 use Rattle.tables.specs.Tables.{Records, figureOf, isCorner, placeOf}
 use Rattle.tables.proofs.Splices.{word-replicate}
 use Rattle.search.specs.Network.{cost}
 use Rattle.search.specs.inner.Keys.{Filled, Open}
-use Rattle.search.specs.inner.Parts.{Corners, Bend, Ranked}
+use Rattle.search.specs.inner.Parts.{Places, Corners, Bend, Ranked}
 use Rattle.search.proofs.Network.{corner-below}
+
+-- the places of marks, listed one by one
+pub places-none : (R : Records) (places : List ℕ) → length places ≡ 480 → Places R places 0
+places-none R places l = record { sized = l; each = λ v h. absurd (omega arith) }
+
+pub places-next : (R : Records) (places : List ℕ) (i e n : ℕ) → i < 240 → Places R places i → point e n ≡ placeOf R i → Places R (set (set places (2 * i) e) (2 * i + 1) n) (i + 1)
+places-next R places i e n l p h = record { sized = length-set (set places (2 * i) e) (2 * i + 1) n ∙ length-set places (2 * i) e ∙ p .sized; each = λ v b. each v b (decLt v i) }
+  where
+    new : List ℕ
+    new = set (set places (2 * i) e) (2 * i + 1) n
+
+    kept : (k : ℕ) → k < 2 * i → word new k ≡ word places k
+    kept k b = getD-set-other (set places (2 * i) e) (2 * i + 1) k n 0 (omega arith) ∙ getD-set-other places (2 * i) k e 0 (omega arith)
+
+    here : placeAt new (2 * i) ≡ point e n
+    here =
+        let a : word new (2 * i) ≡ e = getD-set-other (set places (2 * i) e) (2 * i + 1) (2 * i) n 0 (omega arith) ∙ getD-set-same places (2 * i) e 0 (omega (arith, p .sized)) in
+        let b : word new (2 * i + 1) ≡ n = getD-set-same (set places (2 * i) e) (2 * i + 1) n 0 (omega (arith, p .sized, length-set places (2 * i) e)) in
+        rw (a, b)
+
+    each : (v : ℕ) → v < i + 1 → Dec (v < i) → placeAt new (2 * v) ≡ placeOf R v
+    each v b (yes g) = let a = kept (2 * v) (omega arith) in let c = kept (2 * v + 1) (omega arith) in rw (a, c) (p .each v g)
+    each v b (no g) = let q : i ≡ v = omega arith in subst (λ (k : ℕ). placeAt new (2 * k) ≡ placeOf R k) q (here ∙ h)
 
 -- the keys before the search
 pub filled-all : (n x : ℕ) → Filled (replicate n x) n x
@@ -30,21 +53,26 @@ pub cost-is : (R : Records) (v s : ℕ) (p q : Point) (f n : ℕ) → p ≡ plac
 unfolding cost lengthOf
 cost-is R v s p q f n a b g e = rw (g, e, a, b)
 
+-- the same of two places
+charge-is : (f n : ℕ) (p q : Point) → n ≡ squared p q → charge f (lengthOf p q) ≡ charge f (rootUp n)
+unfolding lengthOf
+charge-is f n p q e = rw e
+
 -- a way that is not too dear has a key below the old
 pub below-old : (ks old x : ℕ) (t : Bool) → ks + 2 ≤ old → t ≡ ltb ((old - ks - 2) / 256) x → t ≡ false → 256 * x + 1 + ks < old
 below-old ks old x t l d h = let g = ltb-false ((old - ks - 2) / 256) x (sym d ∙ h) in omega arith
 
--- the lesser of the old key and that of the way by a settled mark
-module _ (R : Records) (v s ks old : ℕ) where
-  pub lesser-near : old < ks + 2 → old ≡ min old (256 * cost R v s + 1 + ks)
+-- the lesser of the old key and that of the way from p by a settled mark at q
+module _ (f : ℕ) (p q : Point) (ks old : ℕ) where
+  pub lesser-near : old < ks + 2 → old ≡ min old (256 * charge f (lengthOf p q) + 1 + ks)
   lesser-near l = omega arith
 
-  pub lesser-dear : (x : ℕ) (t : Bool) → ks + 2 ≤ old → cost R v s ≡ x → t ≡ ltb ((old - ks - 2) / 256) x → t ≡ true → old ≡ min old (256 * cost R v s + 1 + ks)
-  lesser-dear x t l e d h = let g = ltb-true ((old - ks - 2) / 256) x (sym d ∙ h) in omega arith
+  module _ (n : ℕ) (t : Bool) (l : ks + 2 ≤ old) (s : n ≡ squared p q) (d : t ≡ ltb ((old - ks - 2) / 256) (charge f (rootUp n))) where
+    pub lesser-dear : t ≡ true → old ≡ min old (256 * charge f (lengthOf p q) + 1 + ks)
+    lesser-dear h = let g = ltb-true ((old - ks - 2) / 256) (charge f (rootUp n)) (sym d ∙ h) in omega (arith, charge-is f n p q s)
 
-  pub lesser-new : (x : ℕ) (t : Bool) → ks + 2 ≤ old → cost R v s ≡ x → t ≡ ltb ((old - ks - 2) / 256) x → t ≡ false
-      → 256 * x + 1 + ks ≡ min old (256 * cost R v s + 1 + ks)
-  lesser-new x t l e d h = let g = below-old ks old x t l d h in omega arith
+    pub lesser-new : t ≡ false → 256 * charge f (rootUp n) + 1 + ks ≡ min old (256 * charge f (lengthOf p q) + 1 + ks)
+    lesser-new h = let g = below-old ks old (charge f (rootUp n)) t l d h in omega (arith, charge-is f n p q s)
 
 pub open-dec : (waiting : List ℕ) (n v : ℕ) → Dec (Open waiting n v)
 open-dec waiting zero v = no (λ o. omega (arith, o .within))

@@ -1,23 +1,48 @@
-// The keys of one run's search, 256 × cost + straights: A* backwards from the second end, with a lower bound from the first.
+// The steps of one run's search, A* backwards from the second end with a lower bound from the first: the marks in one list,
+// and the relaxing of those that have a clear straight to a settled one. A key is 256 × cost + straights.
 ghost use mathlib.Core.Path.{_≡_};
 ghost use Prim.Native.Nat.{ℕ, _+_, _*_, _<_, _≤_, min, max};
 ghost use lib.ListN.{length};
-ghost use Rattle.geometry.specs.Words.{pointOf, word};
-ghost use Rattle.tables.specs.Tables.{stored, firstEnd, secondEnd};
-ghost use Rattle.tables.specs.inner.Fit.{Fit};
-ghost use Rattle.adjacency.specs.inner.Adjacent.{Rows};
-ghost use Rattle.search.specs.Network.{ByBytes, graph};
+ghost use Rattle.geometry.specs.Words.{pointOf, word, placeAt};
+ghost use Rattle.tables.specs.Tables.{stored};
 ghost use Rattle.search.specs.inner.LowerBound.{projection, atLeast, lowerBound};
-ghost use Rattle.search.specs.inner.Keys.{unreached, Filled, Listed, Looked, Searchable, Searched};
-ghost use Rattle.search.specs.inner.Parts.{Here, Corners, Ranked, Bends, Parted, Exchanged, Passed, via, Placed, Marked, Row, EndSettled, Due, Turned};
+ghost use Rattle.search.specs.inner.Keys.{Listed, Looked};
+ghost use Rattle.search.specs.inner.Parts.{Places, Here, Corners, Ranked, Bends, Parted, Exchanged, Passed, wayBy, via, ahead, Marked, Row, nearWord, nearBase, Seen};
 use geometry::Place;
 
-// A settled mark, and how many marks are left waiting.
-struct Settled {
-    mark: usize,
-    place: Place,
-    key: u32,
-    left: usize,
+// A settled mark, how many marks are left waiting, the figure, and the place of the first end.
+pub struct Settled {
+    pub mark: usize,
+    pub place: Place,
+    pub key: u32,
+    pub left: usize,
+    pub figure: u64,
+    pub goal: Place,
+}
+
+// The places of all marks, two words each.
+pub fn list_places(blocks: &[u16], runs: &[u16], places: &mut [u16])
+    requires { ⌜ (length (now blocks) ≡ 408) × (length (now runs) ≡ 121) × (length (now places) ≡ 480) ⌝ }
+    ensures { λ r. ⌜ Places (stored (now (blocks .entry)) (now (runs .entry))) (now (places .exit)) 240 ⌝ }
+{
+    let mut i = 0;
+    while i < 240 {
+        let p = tables::place_of(blocks, runs, i);
+        places[2 * i] = p.east;
+        places[2 * i + 1] = p.north;
+        i += 1;
+    }
+}
+
+// The place of mark v among them.
+pub fn listed_place(places: &[u16], v: usize) -> Place
+    requires { ⌜ (length (now places) ≡ 480) × (v < 240) ⌝ }
+    ensures { λ r. ⌜ pointOf r ≡ placeAt (now (places .entry)) (2 * v) ⌝ }
+{
+    Place {
+        east: places[2 * v],
+        north: places[2 * v + 1],
+    }
 }
 
 // Lists the corners of the present blocks, and answers how many there are.
@@ -39,7 +64,7 @@ fn open_corners(blocks: &[u16], waiting: &mut [u16], spot: &mut [u8]) -> usize
 }
 
 // Lists them and the first end behind them.
-fn list_bends(blocks: &[u16], first: usize, waiting: &mut [u16], spot: &mut [u8]) -> usize
+pub fn list_bends(blocks: &[u16], first: usize, waiting: &mut [u16], spot: &mut [u8]) -> usize
     requires { ⌜ (length (now blocks) ≡ 408) × (length (now waiting) ≡ 194) × (length (now spot) ≡ 240) × (192 ≤ first) × (first < 240) ⌝ }
     ensures { λ n. ⌜ Ranked (now (blocks .entry)) first (now (waiting .exit)) (now (spot .exit)) n ⌝ }
 {
@@ -66,7 +91,8 @@ fn projection(hi: u32, lo: u32) -> u32
 
 // 256 × a whole number that the straight from a to b is at least as long as.
 fn at_least(a: Place, b: Place) -> u32
-    ensures { λ r. ⌜ r ≡ 256 * atLeast (pointOf a) (pointOf b) ⌝ }
+    ensures value { λ r. ⌜ r ≡ 256 * atLeast (pointOf a) (pointOf b) ⌝ }
+    ensures small { λ r. ⌜ r ≤ 23723670 ⌝ }
 {
     let x = lengths::apart(a.east, b.east) as u32;
     let y = lengths::apart(a.north, b.north) as u32;
@@ -97,27 +123,25 @@ pub fn lower_bounds(
     }
 }
 
-// The key of mark v by a clear straight to a settled mark, or its old one where that is less.
-fn improved(blocks: &[u16], runs: &[u16], by: Settled, v: usize, old: u32) -> u32
-    requires { ⌜ (Fit (stored (now blocks) (now runs))) × (Placed (stored (now blocks) (now runs)) by) × (v < 240) ⌝ }
-    ensures { λ r. ⌜ r ≡ min old (via (stored (now (blocks .entry)) (now (runs .entry))) by v) ⌝ }
+// The key of a mark by a clear straight to a settled mark, or its old one where that is less.
+fn improved(by: Settled, at: Place, old: u32) -> u32
+    requires { ⌜ by .key ≤ 4294967293 ⌝ }
+    ensures { λ r. ⌜ r ≡ min old (wayBy by (pointOf at)) ⌝ }
 {
     let ks = by.key;
     if old < ks + 2 {
         return old;
     }
     let most = ((old - ks - 2) / 256) as u64;
-    let at = by.place;
-    let square = lengths::squared(tables::place_of(blocks, runs, v), at);
-    let figure = tables::figure_of(runs);
-    if lengths::dearer(figure, square, most) {
+    let square = lengths::squared(at, by.place);
+    if lengths::dearer(by.figure, square, most) {
         return old;
     }
-    256 * lengths::charge(figure, square) as u32 + 1 + ks
+    256 * lengths::charge(by.figure, square) as u32 + 1 + ks
 }
 
 // Exchanges the marks at the places i and j.
-fn swap(waiting: &mut [u16], spot: &mut [u8], i: usize, j: usize)
+pub fn swap(waiting: &mut [u16], spot: &mut [u8], i: usize, j: usize)
     requires { ⌜ (length (now waiting) ≡ 194) × (i < 194) × (j < 194) × (word (now waiting) i < 240) × (word (now waiting) j < 240) × (length (now spot) ≡ 240) ⌝ }
     requires { ⌜ (word (now spot) (word (now waiting) i) ≡ i) × (word (now spot) (word (now waiting) j) ≡ j) ⌝ }
     ensures { λ r. ⌜ Exchanged (now (waiting .entry)) (now (spot .entry)) (now (waiting .exit)) (now (spot .exit)) i j ⌝ }
@@ -133,36 +157,42 @@ fn swap(waiting: &mut [u16], spot: &mut [u8], i: usize, j: usize)
 // Relaxes mark v by a settled mark that it has a clear straight to, unless it is settled too.
 // Of the waiting marks the first u are not reached; answers how many then are.
 fn relax_mark(
-    blocks: &[u16],
-    runs: &[u16],
+    places: &[u16],
     by: Settled,
     v: usize,
     u: usize,
     waiting: &mut [u16],
     spot: &mut [u8],
     key: &mut [u32],
+    sums: &mut [u32],
 ) -> usize
-    requires { ⌜ (Fit (stored (now blocks) (now runs))) × (Placed (stored (now blocks) (now runs)) by) × (v < 240) ⌝ }
-    requires { ⌜ (Parted (now waiting) (now spot) (now key) u (by .left)) × (Here (now waiting) (now spot) v) ⌝ }
-    ensures { λ r. ⌜ Passed (via (stored (now (blocks .entry)) (now (runs .entry))) by) (λ x. x ≡ v) (now (waiting .entry)) (now (spot .entry)) (now (key .entry)) (now (waiting .exit)) (now (spot .exit)) (now (key .exit)) r (by .left) ⌝ }
+    requires { ⌜ (length (now places) ≡ 480) × (by .key ≤ 4294967293) × (v < 240) ⌝ }
+    requires { ⌜ (Parted (ahead (now places) by) (now waiting) (now spot) (now key) (now sums) u (by .left)) × (Here (now waiting) (now spot) v) ⌝ }
+    ensures { λ r. ⌜ Passed (ahead (now (places .entry)) by) (via (now (places .entry)) by) (λ x. x ≡ v) (now (waiting .entry)) (now (spot .entry)) (now (key .entry)) (now (waiting .exit)) (now (spot .exit)) (now (key .exit)) (now (sums .exit)) r (by .left) ⌝ }
 {
     let at = spot[v] as usize;
     if at >= by.left {
         return u;
     }
     let old = key[v];
-    key[v] = improved(blocks, runs, by, v, old);
+    let here = listed_place(places, v);
+    let new = improved(by, here, old);
+    if old <= new {
+        return u;
+    }
+    key[v] = new;
     if at >= u {
+        sums[at] -= old - new;
         return u;
     }
     swap(waiting, spot, at, u - 1);
+    sums[u - 1] = new + at_least(by.goal, here);
     u - 1
 }
 
 // Relaxes the marks of one word, whose lowest bit is that of mark base.
 fn relax_word(
-    blocks: &[u16],
-    runs: &[u16],
+    places: &[u16],
     by: Settled,
     w: u64,
     base: usize,
@@ -170,26 +200,24 @@ fn relax_word(
     waiting: &mut [u16],
     spot: &mut [u8],
     key: &mut [u32],
+    sums: &mut [u32],
 ) -> usize
-    requires { ⌜ (Fit (stored (now blocks) (now runs))) × (Placed (stored (now blocks) (now runs)) by) ⌝ }
-    requires { ⌜ (Parted (now waiting) (now spot) (now key) u (by .left)) × ((v : ℕ) → Marked w base v → (v < 240) × (Here (now waiting) (now spot) v)) ⌝ }
-    ensures { λ r. ⌜ Passed (via (stored (now (blocks .entry)) (now (runs .entry))) by) (Marked w base) (now (waiting .entry)) (now (spot .entry)) (now (key .entry)) (now (waiting .exit)) (now (spot .exit)) (now (key .exit)) r (by .left) ⌝ }
+    requires { ⌜ (length (now places) ≡ 480) × (by .key ≤ 4294967293) ⌝ }
+    requires { ⌜ (Parted (ahead (now places) by) (now waiting) (now spot) (now key) (now sums) u (by .left)) × ((v : ℕ) → Marked w base v → (v < 240) × (Here (now waiting) (now spot) v)) ⌝ }
+    ensures { λ r. ⌜ Passed (ahead (now (places .entry)) by) (via (now (places .entry)) by) (Marked w base) (now (waiting .entry)) (now (spot .entry)) (now (key .entry)) (now (waiting .exit)) (now (spot .exit)) (now (key .exit)) (now (sums .exit)) r (by .left) ⌝ }
 {
     let mut low = u;
     let mut rest = w;
-    let mut p = base;
     while 0 < rest {
-        let z = bits::lowest(rest);
-        let v = p + z as usize;
-        low = relax_mark(blocks, runs, by, v, low, waiting, spot, key);
-        rest = bits::above(rest, z);
-        p = v + 1;
+        let v = base + bits::lowest(rest) as usize;
+        low = relax_mark(places, by, v, low, waiting, spot, key, sums);
+        rest = bits::without_lowest(rest);
     }
     low
 }
 
 // The corners near mark v, in three words.
-fn near_row(blocks: &[u16], pairs: &[u8], v: usize, row: &mut [u64])
+pub fn near_row(blocks: &[u16], pairs: &[u8], v: usize, row: &mut [u64])
     requires { ⌜ (length (now blocks) ≡ 408) × (length (now pairs) ≡ 28680) × (v < 240) × (length (now row) ≡ 3) ⌝ }
     ensures { λ r. ⌜ Row (now (blocks .entry)) (now (pairs .entry)) (now (row .exit)) v 3 ⌝ }
 {
@@ -200,10 +228,34 @@ fn near_row(blocks: &[u16], pairs: &[u8], v: usize, row: &mut [u64])
     }
 }
 
+// The word q of the marks near a settled mark: the corners in the row, three words, and then one for the first end alone.
+fn near_word(pairs: &[u8], row: &[u64], first: usize, mark: usize, q: usize) -> u64
+    requires { ⌜ (length (now pairs) ≡ 28680) × (length (now row) ≡ 3) × (first < 240) × (mark < 240) × (first ≡ mark → ⊥) ⌝ }
+    ensures { λ r. ⌜ r ≡ nearWord (now (pairs .entry)) (now (row .entry)) first mark q ⌝ }
+{
+    if q < 3 {
+        return row[q];
+    }
+    if tables::pair_byte(pairs, first, mark) == 254 {
+        return 1;
+    }
+    0
+}
+
+// The mark of its lowest bit.
+fn near_base(first: usize, q: usize) -> usize
+    ensures { λ r. ⌜ r ≡ nearBase first q ⌝ }
+{
+    if q < 3 {
+        return 64 * q;
+    }
+    first
+}
+
 // Relaxes every waiting mark that has a clear straight to a settled one, whose near corners are in the row.
-fn relax(
+pub fn relax(
     blocks: &[u16],
-    runs: &[u16],
+    places: &[u16],
     pairs: &[u8],
     row: &[u64],
     by: Settled,
@@ -212,141 +264,20 @@ fn relax(
     waiting: &mut [u16],
     spot: &mut [u8],
     key: &mut [u32],
+    sums: &mut [u32],
 ) -> usize
-    requires { ⌜ (Searchable (stored (now blocks) (now runs)) (now pairs)) × (Placed (stored (now blocks) (now runs)) by) × (Row (now blocks) (now pairs) (now row) (by .mark) 3) ⌝ }
-    requires { ⌜ (first < 240) × (first ≡ by .mark → ⊥) ⌝ }
-    requires { ⌜ (Parted (now waiting) (now spot) (now key) u (by .left)) × (Bends (now blocks) first (now waiting) (now spot) (by .left)) ⌝ }
-    ensures { λ r. ⌜ Passed (via (stored (now (blocks .entry)) (now (runs .entry))) by) (λ v. graph (stored (now (blocks .entry)) (now (runs .entry))) (ByBytes (now (pairs .entry))) .Edge v (by .mark)) (now (waiting .entry)) (now (spot .entry)) (now (key .entry)) (now (waiting .exit)) (now (spot .exit)) (now (key .exit)) r (by .left) ⌝ }
+    requires { ⌜ (length (now places) ≡ 480) × (length (now pairs) ≡ 28680) × (by .key ≤ 4294967293) × (Row (now blocks) (now pairs) (now row) (by .mark) 3) ⌝ }
+    requires { ⌜ (first < 240) × (by .mark < 240) × (first ≡ by .mark → ⊥) ⌝ }
+    requires { ⌜ (Parted (ahead (now places) by) (now waiting) (now spot) (now key) (now sums) u (by .left)) × (Bends (now blocks) first (now waiting) (now spot) (by .left)) ⌝ }
+    ensures { λ r. ⌜ Passed (ahead (now (places .entry)) by) (via (now (places .entry)) by) (Seen (now (pairs .entry)) (by .mark)) (now (waiting .entry)) (now (spot .entry)) (now (key .entry)) (now (waiting .exit)) (now (spot .exit)) (now (key .exit)) (now (sums .exit)) r (by .left) ⌝ }
 {
     let mut low = u;
     let mut q = 0;
-    while q < 3 {
-        low = relax_word(blocks, runs, by, row[q], 64 * q, low, waiting, spot, key);
+    while q < 4 {
+        let w = near_word(pairs, row, first, by.mark, q);
+        let base = near_base(first, q);
+        low = relax_word(places, by, w, base, low, waiting, spot, key, sums);
         q += 1;
     }
-    if tables::pair_byte(pairs, first, by.mark) != 254 {
-        return low;
-    }
-    relax_mark(blocks, runs, by, first, low, waiting, spot, key)
-}
-
-// Settles the second end of run m, when all n marks are waiting.
-fn settle_end(
-    blocks: &[u16],
-    runs: &[u16],
-    pairs: &[u8],
-    m: usize,
-    n: usize,
-    waiting: &mut [u16],
-    spot: &mut [u8],
-    key: &mut [u32],
-) -> usize
-    requires { ⌜ (Searchable (stored (now blocks) (now runs)) (now pairs)) × (m < 24) ⌝ }
-    requires { ⌜ (Ranked (now blocks) (firstEnd m) (now waiting) (now spot) n) × (Filled (now key) 240 unreached) ⌝ }
-    ensures { λ r. ⌜ EndSettled (graph (stored (now (blocks .entry)) (now (runs .entry))) (ByBytes (now (pairs .entry)))) (secondEnd m) (now (waiting .entry)) (now (spot .entry)) (now (key .entry)) (now (waiting .exit)) (now (spot .exit)) (now (key .exit)) r n ⌝ }
-{
-    let first = 192 + 2 * m;
-    let second = 193 + 2 * m;
-    key[second] = 0;
-    let mut row = [0u64; 3];
-    near_row(blocks, pairs, second, &mut row);
-    let place = tables::place_of(blocks, runs, second);
-    let by = Settled {
-        mark: second,
-        place: place,
-        key: 0,
-        left: n,
-    };
-    relax(blocks, runs, pairs, &row, by, first, n, waiting, spot, key)
-}
-
-// Settles the mark at a place of the list, where n marks are waiting and the first u of them are not reached.
-fn settle_mark(
-    blocks: &[u16],
-    runs: &[u16],
-    pairs: &[u8],
-    adj: &[u64],
-    first: usize,
-    at: usize,
-    u: usize,
-    n: usize,
-    waiting: &mut [u16],
-    spot: &mut [u8],
-    key: &mut [u32],
-) -> usize
-    requires { ⌜ (Searchable (stored (now blocks) (now runs)) (now pairs)) × (Rows (now blocks) (now pairs) (now adj) 576) × (192 ≤ first) × (first < 240) ⌝ }
-    requires { ⌜ (Parted (now waiting) (now spot) (now key) u n) × (Bends (now blocks) first (now waiting) (now spot) n) × (Due (now waiting) (now key) u n at) ⌝ }
-    ensures { λ r. ⌜ Turned (graph (stored (now (blocks .entry)) (now (runs .entry))) (ByBytes (now (pairs .entry)))) (now (waiting .entry)) (now (spot .entry)) (now (key .entry)) (now (waiting .exit)) (now (spot .exit)) (now (key .exit)) at n r ⌝ }
-{
-    let s = waiting[at] as usize;
-    let left = n - 1;
-    swap(waiting, spot, at, left);
-    let place = tables::place_of(blocks, runs, s);
-    let by = Settled {
-        mark: s,
-        place: place,
-        key: key[s],
-        left: left,
-    };
-    let from = 3 * s;
-    let to = from + 3;
-    relax(
-        blocks,
-        runs,
-        pairs,
-        &adj[from..to],
-        by,
-        first,
-        u,
-        waiting,
-        spot,
-        key,
-    )
-}
-
-// Finds the keys for run m, of which none is reached at first, by the rows of near corners; answers whether there is a way.
-// The list is kept in three parts: the first u marks are not reached, those before n are waiting, the others are settled.
-pub fn settle(
-    blocks: &[u16],
-    runs: &[u16],
-    pairs: &[u8],
-    adj: &[u64],
-    m: usize,
-    key: &mut [u32],
-) -> bool
-    requires { ⌜ (Searchable (stored (now blocks) (now runs)) (now pairs)) × (Rows (now blocks) (now pairs) (now adj) 576) ⌝ }
-    requires { ⌜ (m < 24) × (Filled (now key) 240 unreached) ⌝ }
-    ensures { λ r. ⌜ Searched (graph (stored (now (blocks .entry)) (now (runs .entry))) (ByBytes (now (pairs .entry)))) (firstEnd m) (secondEnd m) (now (key .exit)) r ⌝ }
-{
-    let first = 192 + 2 * m;
-    let mut waiting = [0u16; 194];
-    let mut spot = [0u8; 240];
-    let mut n = list_bends(blocks, first, &mut waiting, &mut spot);
-    let mut bounds = [0u32; 240];
-    lower_bounds(blocks, runs, &waiting, n, first, &mut bounds);
-    let mut u = settle_end(blocks, runs, pairs, m, n, &mut waiting, &mut spot, key);
-    loop {
-        let at = heaps::least(&bounds, key, &waiting, u, n);
-        if at >= n {
-            return false;
-        }
-        let s = waiting[at] as usize;
-        if key[first] <= key[s] + bounds[s] {
-            return true;
-        }
-        u = settle_mark(
-            blocks,
-            runs,
-            pairs,
-            adj,
-            first,
-            at,
-            u,
-            n,
-            &mut waiting,
-            &mut spot,
-            key,
-        );
-        n -= 1;
-    }
+    low
 }

@@ -11,7 +11,7 @@ use Rattle.routing.proofs.route.Statement.{statement}
 use Rattle.routing.proofs.route.Tie as tie
 
 cleared-here : (c : tie.After-fill32) → c .fill32 .last .0 ≡ filled 197 0
-cleared-here c = cleared _ (c .before .before .before .before .before .before .before .pre .0 .3) (c .fill32 .ensures)
+cleared-here c = cleared _ (c .before .before .before .before .before .before .before .before .pre .0 .3) (c .fill32 .ensures)
 
 fill32-requires : tie.Need-fill32-requires
 fill32-requires c κs = search needs
@@ -35,13 +35,13 @@ slice-aggregate-settle : tie.Need-slice-aggregate-settle
 slice-aggregate-settle c = search needs
 
 settle-requires : tie.Need-settle-requires
-settle-requires c κs = let s = c .before .before .before .before .before .before .before .before .before .before .before .before in ((record { fit = s .pre .0 .0; sized = s .pre .0 .1 }, s .pre .1), (s .pre .0 .2, filled-all 240 unreached))
+settle-requires c κs = let s = c .before .before .before .before .before .before .before .before .before .before .before .before .before in ((record { fit = s .pre .0 .0; sized = s .pre .0 .1 }, s .pre .1 .1, s .pre .1 .0), (s .pre .0 .2, filled-all 240 unreached))
 
 slice-aggregate-walk : tie.Need-slice-aggregate-walk
 slice-aggregate-walk c = search needs
 
 walk-requires : tie.Need-walk-requires
-walk-requires c κs = let s = c .before .before .before .before .before .before .before .before .before .before .before .before .before .before .before .before .before in
+walk-requires c κs = let s = c .before .before .before .before .before .before .before .before .before .before .before .before .before .before .before .before .before .before in
     (record { fit = s .pre .0 .0; sized = s .pre .0 .1 }, (s .pre .0 .2, c .before .before .before .before .settle .ensures .way (c .before .before .if2 .taken), (cleared-here (c .before .before .before .before .before .before .before .before .before .before))))
 
 slice-write-part : tie.Need-slice-write-part
@@ -75,14 +75,14 @@ same-length-2 : tie.Need-same-length-2
 same-length-2 c = simp length-set (omega arith)
 
 returns-2 : tie.Need-returns-2
-returns-2 c = let s = c .before .before .before .before .before .before .before .before .before .before .before .before .before .before .before .before .before .before .before .before in
+returns-2 c = let s = c .before .before .before .before .before .before .before .before .before .before .before .before .before .before .before .before .before .before .before .before .before in
     found-record _ _ _ _ _ _ (s .pre .0 .0) (s .pre .0 .2) (c .before .before .before .before .before .before .before .before .before .if1 .left) (c .before .before .walk .ensures)
 
 same-length-3 : tie.Need-same-length-3
 same-length-3 c = search needs
 
 returns-3 : tie.Need-returns-3
-returns-3 c = let s = c .before .before .before .before .before .before .before .before .before .before .before .before .before .before .before in
+returns-3 c = let s = c .before .before .before .before .before .before .before .before .before .before .before .before .before .before .before .before in
     no-way-record _ _ _ _ (cleared-here (c .before .before .before .before .before .before .before .before)) (s .pre .0 .0) (s .pre .0 .2) (c .before .before .before .before .if1 .left) (c .before .before .settle .ensures .no-way (c .if2 .left))
 
 pub route-spec : {M : Type 1} → statement M

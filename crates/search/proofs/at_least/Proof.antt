@@ -1,5 +1,5 @@
 use borrow.Author.Needs.{needs}
-use Rattle.search.proofs.LowerBounds.{at-least-is}
+use Rattle.search.proofs.LowerBounds.{at-least-is, at-least-small}
 use Rattle.search.proofs.at_least.Statement.{statement}
 use Rattle.search.proofs.at_least.Tie as tie
 
@@ -16,4 +16,4 @@ at-least-spec =
     (λ c. search needs)
     (λ c κs. search needs)
     (λ c. search needs)
-    (λ c. search at-least-is))
+    (λ c. (search at-least-is, search at-least-small)))

@@ -37,6 +37,6 @@ lower-bounds-spec =
     (λ c. omega (arith, mark-below (c .before .before .before), c .before .before .before .before .loop .inv .1 .sized))
     (λ c. search needs)
     (λ c. search needs)
-    (λ c. (omega arith, looked-next _ _ _ _ _ (mark-below (c .before .before .before)) (c .before .before .before .before .loop .inv .1) (bound-is _ _ _ _ _ _ (c .before .before .before .before .before .place-of .ensures) (c .before .place-of2 .ensures) (c .at-least .ensures))))
+    (λ c. (omega arith, looked-next _ _ _ _ _ (mark-below (c .before .before .before)) (c .before .before .before .before .loop .inv .1) (bound-is _ _ _ _ _ _ (c .before .before .before .before .before .place-of .ensures) (c .before .place-of2 .ensures) (c .at-least .ensures .0))))
     (λ c. c .before .loop .inv .1 .sized ∙ sym (c .before .before .before .before .before .before .before .pre .1 .2))
     (λ c. let q : c .before .loop .j ≡ c .before .before .before .before .before .before .before .args .n = omega arith in rw q at (c .before .loop .inv .1)))

@@ -64,12 +64,6 @@ pub record Reaching (G : Graph) (start end v key n : ℕ) : Type 0 where
   pub few : length by + n ≤ 195
   pub short : total (G .cost) by ≤ 46340 * (length by - 1)
 
--- the list holds 256 × a consistent bound of every vertex
-pub record Bounding (G : Graph) (start : ℕ) (bound : ℕ → ℕ) (bounds : List ℕ) : Type 0 where
-  pub consistent : ConsistentBound G start bound
-  pub sized : length bounds ≡ 240
-  pub each : (v : ℕ) → Vertex G start v → word bounds v ≡ 256 * bound v
-
 -- the keys once start is settled: those that with their bounds are below start's are settled too
 pub record Keyed (G : Graph) (start end : ℕ) (key : List ℕ) : Type 0 where
   pub sized : length key ≡ 240

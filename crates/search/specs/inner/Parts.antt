@@ -1,19 +1,27 @@
 -- The marks of a search in one list of three parts, and what relaxing by a settled mark makes of it.
 use mathlib.Core.Path.{_≡_}
 use mathlib.Core.Logic.{_⊎_}
-use mathlib.Core.Bool.{true}
+use mathlib.Core.Bool.{true, cond}
 use mathlib.Core.List.{List}
-use Prim.Native.Nat.{ℕ, _+_, _*_, _-_, _≤_, _<_}
-use lib.ListN.{length, set}
-use Rattle.paths.specs.Path.{Graph}
-use Rattle.geometry.specs.Words.{pointOf, word}
+use Prim.Native.Nat.{ℕ, _+_, _*_, _≤_, _<_}
+use lib.Dec.{ltb, eqb}
+use lib.ListN.{length}
+use Rattle.geometry.specs.Words.{Point, pointOf, word, placeAt}
+use Rattle.lengths.specs.Length.{lengthOf}
+use Rattle.lengths.specs.Charge.{charge}
 use Rattle.bits.specs.inner.Bits.{bit}
-use Rattle.tables.specs.Tables.{Records, isCorner, placeOf}
+use Rattle.tables.specs.Tables.{Records, isCorner, placeOf, pairByte}
 use Rattle.adjacency.specs.inner.Adjacent.{Adjacent, Shows}
 use Rattle.heaps.specs.inner.Marks.{Swapped}
-use Rattle.search.specs.Network.{cost}
-use Rattle.search.specs.inner.Keys.{unreached, weight, Open}
+use Rattle.search.specs.Network.{ByBytes}
+use Rattle.search.specs.inner.LowerBound.{atLeast}
+use Rattle.search.specs.inner.Keys.{unreached, Open}
 use Rattle.search.specs.declared.Settled.{Settled}
+
+-- the places of the first n marks stand in the list, two words each
+pub record Places (R : Records) (places : List ℕ) (n : ℕ) : Type 0 where
+  pub sized : length places ≡ 480
+  pub each : (v : ℕ) → v < n → placeAt places (2 * v) ≡ placeOf R v
 
 -- v stands in the list where `spot` says
 abbrev pub Here : List ℕ → List ℕ → ℕ → Type 0
@@ -47,8 +55,8 @@ pub record Bends (blocks : List ℕ) (first : ℕ) (waiting spot : List ℕ) (n 
   pub all : (v : ℕ) → Bend blocks first v → Here waiting spot v
   pub only : (v : ℕ) → Open waiting n v → Bend blocks first v
 
--- the first n of the list are waiting, and the first u of them are not reached
-pub record Parted (waiting spot key : List ℕ) (u n : ℕ) : Type 0 where
+-- the first n of the list are waiting, and the first u of them are not reached; the others have their key and 256 × their bound as a sum
+pub record Parted (bound : ℕ → ℕ) (waiting spot key sums : List ℕ) (u n : ℕ) : Type 0 where
   pub sized : length waiting ≡ 194
   pub spots : length spot ≡ 240
   pub keyed : length key ≡ 240
@@ -57,6 +65,8 @@ pub record Parted (waiting spot key : List ℕ) (u n : ℕ) : Type 0 where
   pub marks : (j : ℕ) → j < n → word waiting j < 240
   pub inverse : (j : ℕ) → j < n → word spot (word waiting j) ≡ j
   pub fresh : (j : ℕ) → j < u → word key (word waiting j) ≡ unreached
+  pub summed : length sums ≡ 194
+  pub sum : (j : ℕ) → u ≤ j → j < n → word sums j ≡ word key (word waiting j) + 256 * bound (word waiting j)
 
 -- the places i and j of the list are exchanged, and `spot` says so
 pub record Exchanged (waiting spot waiting′ spot′ : List ℕ) (i j : ℕ) : Type 0 where
@@ -80,20 +90,21 @@ pub record Lowered (key key′ : List ℕ) (P : ℕ → Type 0) (most : ℕ → 
   pub came : (v : ℕ) → (word key′ v ≡ word key v) ⊎ (P v × (word key′ v ≡ most v))
 
 -- the waiting marks with P are lowered to `most`; r of those that wait are still not reached
-pub record Passed (most : ℕ → ℕ) (P : ℕ → Type 0) (waiting spot key waiting′ spot′ key′ : List ℕ) (r n : ℕ) : Type 0 where
-  pub parted : Parted waiting′ spot′ key′ r n
+pub record Passed (bound most : ℕ → ℕ) (P : ℕ → Type 0) (waiting spot key waiting′ spot′ key′ sums′ : List ℕ) (r n : ℕ) : Type 0 where
+  pub parted : Parted bound waiting′ spot′ key′ sums′ r n
   pub sorted : Resorted waiting spot waiting′ spot′ n
   pub keys : Lowered key key′ (λ v. Open waiting n v × P v) most
 
--- the key of v by a straight to a settled mark
-abbrev pub via : Records → Settled → ℕ → ℕ
-via R by v = 256 * cost R v (by .mark) + 1 + by .key
+-- the key of a mark at p by a straight to a settled mark
+abbrev pub wayBy : Settled → Point → ℕ
+wayBy by p = 256 * charge (by .figure) (lengthOf p (pointOf (by .place))) + 1 + by .key
 
--- what is kept of a settled mark is right
-pub record Placed (R : Records) (by : Settled) : Type 0 where
-  pub below : by .mark < 240
-  pub place : pointOf (by .place) ≡ placeOf R (by .mark)
-  pub small : by .key ≤ 4294967293
+-- of mark v: its key by that straight, and how far it is from the first end at least
+abbrev pub via : List ℕ → Settled → ℕ → ℕ
+via places by v = wayBy by (placeAt places (2 * v))
+
+abbrev pub ahead : List ℕ → Settled → ℕ → ℕ
+ahead places by v = atLeast (pointOf (by .goal)) (placeAt places (2 * v))
 
 -- the word has the bit of v, where its lowest is that of base
 pub record Marked (w base v : ℕ) : Type 0 where
@@ -106,22 +117,14 @@ pub record Row (blocks pairs row : List ℕ) (v n : ℕ) : Type 0 where
   pub sized : length row ≡ 3
   pub each : (q : ℕ) → q < n → (i : ℕ) → i < 64 → Shows (Adjacent blocks pairs v (64 * q + i)) (bit i (word row q))
 
--- the second end is settled, with the key 0; r of the n that wait are not reached
-abbrev pub EndSettled : Graph → ℕ → List ℕ → List ℕ → List ℕ → List ℕ → List ℕ → List ℕ → ℕ → ℕ → Type 0
-EndSettled G second waiting spot key waiting′ spot′ key′ r n =
-    Passed (λ v. weight G v second + 0) (λ v. G .Edge v second) waiting spot (set key second 0) waiting′ spot′ key′ r n
+-- the word q of the marks near s: three of the row, and then one with the first end alone
+unfoldable pub nearWord : List ℕ → List ℕ → ℕ → ℕ → ℕ → ℕ
+nearWord pairs row first s q = cond (ltb q 3) (word row q) (cond (eqb (pairByte pairs first s) 254) 1 0)
 
--- the mark at a place of the list may be settled: it is reached, and is a corner
-pub record Due (waiting key : List ℕ) (u n at : ℕ) : Type 0 where
-  pub from : u ≤ at
-  pub before : at < n
-  pub corner : word waiting at < 192
-  pub small : word key (word waiting at) ≤ 4294967293
+-- the mark of its lowest bit
+unfoldable pub nearBase : ℕ → ℕ → ℕ
+nearBase first q = cond (ltb q 3) (64 * q) first
 
--- the mark at a place of the list, where n were waiting, is settled, and r of those that wait are not reached
-pub record Turned (G : Graph) (waiting spot key waiting′ spot′ key′ : List ℕ) (at n r : ℕ) : Type 0 where
-  pub parted : Parted waiting′ spot′ key′ r (n - 1)
-  pub was-open : (v : ℕ) → Open waiting′ (n - 1) v → Open waiting n v
-  pub still-open : (v : ℕ) → (v ≡ word waiting at → ⊥) → Open waiting n v → Open waiting′ (n - 1) v
-  pub here : (v : ℕ) → Here waiting spot v → Here waiting′ spot′ v
-  pub keys : Lowered key key′ (λ v. Open waiting′ (n - 1) v × G .Edge v (word waiting at)) (λ v. weight G v (word waiting at) + word key (word waiting at))
+-- v has a clear straight to s
+abbrev pub Seen : List ℕ → ℕ → ℕ → Type 0
+Seen pairs s v = (v ≡ s → ⊥) × ByBytes pairs v s

@@ -13,25 +13,29 @@ use Rattle.paths.specs.inner.LowerBound.{ConsistentBound}
 use Rattle.paths.proofs.Short.{chain-two, total-more}
 use Rattle.paths.proofs.Labels.{no-chain}
 use Rattle.geometry.specs.Words.{word}
-use Rattle.search.specs.inner.Keys.{unreached, whole, Filled, weight, Open, Vertex, Reaching, Bounding, Keyed, Searched}
+use Rattle.search.specs.inner.Keys.{unreached, Filled, weight, Open, Vertex, Reaching, Keyed, Searched}
 use Rattle.search.specs.inner.Parts.{Lowered}
-use Rattle.search.proofs.Network.{Sized}
+use Rattle.search.proofs.Network.{Sized, vertex-below, not-end, bound-small}
 use Rattle.search.proofs.Steps.{open-dec}
 
 -- all keys once s is settled: only those of the first n of the list change
 abbrev pub Relaxed : Graph → List ℕ → ℕ → List ℕ → List ℕ → ℕ → ℕ → Type 0
 Relaxed G waiting n key key′ s ks = Lowered key key′ (λ v. Open waiting n v × G .Edge v s) (λ v. weight G v s + ks)
 
--- r is the place in the list of the least sum of key and bound, or n where no mark is reached
-pub record Picked (bounds key waiting : List ℕ) (n r : ℕ) : Type 0 where
-  pub within : r ≤ n
-  pub reached : r < n → whole bounds key (word waiting r) < unreached
-  pub least : r < n → (j : ℕ) → j < n → whole bounds key (word waiting r) ≤ whole bounds key (word waiting j)
-  pub rest : r ≡ n → (j : ℕ) → j < n → unreached ≤ whole bounds key (word waiting j)
+-- a mark's key with 256 × its bound
+abbrev pub sumAt : (ℕ → ℕ) → List ℕ → ℕ → ℕ
+sumAt bound key v = word key v + 256 * bound v
 
-pub record Inv (G : Graph) (start end : ℕ) (bound : ℕ → ℕ) (bounds waiting : List ℕ) (n : ℕ) (key : List ℕ) : Type 0 where
+-- r is the place in the list of the least sum of key and bound, or n where no mark is reached
+pub record Picked (bound : ℕ → ℕ) (key waiting : List ℕ) (n r : ℕ) : Type 0 where
+  pub within : r ≤ n
+  pub reached : r < n → sumAt bound key (word waiting r) < unreached
+  pub least : r < n → (j : ℕ) → j < n → sumAt bound key (word waiting r) ≤ sumAt bound key (word waiting j)
+  pub rest : r ≡ n → (j : ℕ) → j < n → unreached ≤ sumAt bound key (word waiting j)
+
+pub record Inv (G : Graph) (start end : ℕ) (bound : ℕ → ℕ) (waiting : List ℕ) (n : ℕ) (key : List ℕ) : Type 0 where
   pub sized : Sized G start end
-  pub bounding : Bounding G start bound bounds
+  pub consistent : ConsistentBound G start bound
   pub keyed : length key ≡ 240
   pub only : (v : ℕ) → Open waiting n v → Vertex G start v
   pub target : Open waiting n start
@@ -51,25 +55,14 @@ key-top end key e v b = go (ℕ-discrete v end)
     go (no q) = omega (arith, getD-set-other key end v 0 0 q, e .each v b)
 
 module _ {G : Graph} {start end : ℕ} (z : Sized G start end) where
-  pub vertex-below : (v : ℕ) → Vertex G start v → v < 240
-  vertex-below v (inl q) = omega (arith, z .start-below)
-  vertex-below v (inr i) = omega (arith, z .inner-below v i)
-
-  pub not-end : (v : ℕ) → Vertex G start v → v ≡ end → ⊥
-  not-end v (inl q) e = z .apart (sym q ∙ e)
-  not-end v (inr i) e = omega (arith, z .inner-below v i, z .end-above)
-
-  pub bound-small : {bound : ℕ → ℕ} → ConsistentBound G start bound → (v : ℕ) → v < 240 → bound v ≤ 46340
-  bound-small a v l = omega (arith, a .step start v, a .none, z .cost-small start v (z .start-below) l)
-
   -- at the beginning only the end is settled
-  pub begin : {bound : ℕ → ℕ} {bounds : List ℕ} → Bounding G start bound bounds → (waiting : List ℕ) (n : ℕ) (key key′ : List ℕ) → n ≤ 193
+  pub begin : {bound : ℕ → ℕ} → ConsistentBound G start bound → (waiting : List ℕ) (n : ℕ) (key key′ : List ℕ) → n ≤ 193
       → ((v : ℕ) → Open waiting n v → Vertex G start v) → ((v : ℕ) → Vertex G start v → Open waiting n v) → Filled key 240 unreached
-      → Relaxed G waiting n (set key end 0) key′ end 0 → Inv G start end bound bounds waiting n key′
+      → Relaxed G waiting n (set key end 0) key′ end 0 → Inv G start end bound waiting n key′
   begin d waiting n key key′ f only all e r =
       record {
         sized = z;
-        bounding = d;
+        consistent = d;
         keyed = r .same ∙ length-set key end 0 ∙ e .sized;
         only = only;
         target = all start (inl refl);
@@ -84,20 +77,17 @@ module _ {G : Graph} {start end : ℕ} (z : Sized G start end) where
     where
       reaching : (v : ℕ) → Open waiting n v → G .Edge v end → word key′ v ≡ weight G v end + 0 → Reaching G start end v (word key′ v) n
       reaching v o g q =
-          let c = z .cost-small v end (vertex-below v (only v o)) (z .end-below) in
+          let c = z .cost-small v end (vertex-below z v (only v o)) (z .end-below) in
           record { vertex = only v o; by = v ∷ end ∷ []; chain = last g; exact = omega (arith, q); few = omega arith; short = omega (arith, c) }
 
-module _ {G : Graph} {start end : ℕ} {bound : ℕ → ℕ} {bounds waiting : List ℕ} {n : ℕ} {key : List ℕ} (i : Inv G start end bound bounds waiting n key) where
+module _ {G : Graph} {start end : ℕ} {bound : ℕ → ℕ} {waiting : List ℕ} {n : ℕ} {key : List ℕ} (i : Inv G start end bound waiting n key) where
   pub marks : (j : ℕ) → j < n → word waiting j < 240
   marks j l = vertex-below (i .sized) (word waiting j) (i .only (word waiting j) (record { place = j; within = l; is = refl }))
 
   pub key-bound : (v : ℕ) → v < 240 → (v ≡ end → ⊥) → word key v < unreached → word key v ≤ 2301429954
   key-bound v l e k = let t = i .attained v l e k in omega (arith, t .exact, t .few, t .short)
 
-  bound-is : (v : ℕ) → Open waiting n v → word bounds v ≡ 256 * bound v
-  bound-is v o = i .bounding .each v (i .only v o)
-
-  module _ (r : ℕ) (p : Picked bounds key waiting n r) where
+  module _ (r : ℕ) (p : Picked bound key waiting n r) where
     -- no mark that is waiting is reached
     none-left : n ≤ r → NoChain G start end
     none-left l =
@@ -115,15 +105,13 @@ module _ {G : Graph} {start end : ℕ} {bound : ℕ → ℕ} {bounds waiting : L
             omega (
               arith,
               p .rest (omega (arith, p .within)) (o .place) (o .within),
-              ap (word key) (o .is),
-              ap (word bounds) (o .is),
-              bound-is u o,
-              bound-small (i .sized) (i .bounding .consistent) u b,
+              ap (sumAt bound key) (o .is),
+              bound-small (i .sized) (i .consistent) u b,
               key-bound u b (not-end (i .sized) u x) k,
             )
 
     -- no mark that is waiting is before start
-    start-done : r < n → word key start ≤ whole bounds key (word waiting r) → Keyed G start end key
+    start-done : r < n → word key start ≤ sumAt bound key (word waiting r) → Keyed G start end key
     start-done l q =
         record {
           sized = i .keyed;
@@ -131,7 +119,7 @@ module _ {G : Graph} {start end : ℕ} {bound : ℕ → ℕ} {bounds waiting : L
           reached = omega (arith, p .reached l);
           relaxed-last = i .relaxed-last;
           bound = bound;
-          consistent = i .bounding .consistent;
+          consistent = i .consistent;
           relaxed = λ v u x j g k. i .relaxed v u x j g (λ o. above-start u o k);
           attained = λ v b e k.
               let t = i .attained v b e (⊎-elim (λ (h : v ≡ start). omega (arith, p .reached l, ap (word key) h)) (λ h. omega (arith, p .reached l)) k) in
@@ -139,16 +127,16 @@ module _ {G : Graph} {start end : ℕ} {bound : ℕ → ℕ} {bounds waiting : L
         }
       where
         above-start : (u : ℕ) → Open waiting n u → word key u + 256 * bound u < word key start → ⊥
-        above-start u o k = omega (arith, p .least l (o .place) (o .within), ap (word key) (o .is), ap (word bounds) (o .is), bound-is u o)
+        above-start u o k = omega (arith, p .least l (o .place) (o .within), ap (sumAt bound key) (o .is))
 
     pub answer-none : n ≤ r → Searched G start end key false
     answer-none l = record { way = λ e. absurd (true≢false (sym e)); no-way = λ e. none-left l }
 
-    pub answer-found : r < n → word key start ≤ whole bounds key (word waiting r) → Searched G start end key true
+    pub answer-found : r < n → word key start ≤ sumAt bound key (word waiting r) → Searched G start end key true
     answer-found l q = record { way = λ e. start-done l q; no-way = λ e. absurd (true≢false e) }
 
     -- one more mark is settled
-    module _ (l : r < n) (before : whole bounds key (word waiting r) < word key start) where
+    module _ (l : r < n) (before : sumAt bound key (word waiting r) < word key start) where
       abbrev u : ℕ
       u = word waiting r
 
@@ -183,14 +171,14 @@ module _ {G : Graph} {start end : ℕ} {bound : ℕ → ℕ} {bounds waiting : L
           below-u s a h = ⊎-elim (λ q. omega (arith, ap (λ (k : ℕ). word key k + 256 * bound k) q)) (λ g. i .order s u a g u-open) (settled-before s h)
 
           above-u : (v : ℕ) → Open waiting n v → word key u + 256 * bound u ≤ word key v + 256 * bound v
-          above-u v o = omega (arith, p .least l (o .place) (o .within), ap (word key) (o .is), ap (word bounds) (o .is), bound-is v o, bound-is u u-open)
+          above-u v o = omega (arith, p .least l (o .place) (o .within), ap (sumAt bound key) (o .is))
 
           next-order : (s v : ℕ) → Vertex G start s → (Open rest (n - 1) s → ⊥) → Open rest (n - 1) v → word key′ s + 256 * bound s ≤ word key′ v + 256 * bound v
           next-order s v a h o =
               let ks = kept s h in
               let bs = below-u s a h in
               let bv = above-u v (was-open v o) in
-              ⊎-elim (λ e. omega arith) (λ w. omega (arith, w .1, i .bounding .consistent .step v u)) (x .came v)
+              ⊎-elim (λ e. omega arith) (λ w. omega (arith, w .1, i .consistent .step v u)) (x .came v)
 
           next-relaxed : (v s : ℕ) → Vertex G start v → G .Inner s → G .Edge v s → (Open rest (n - 1) s → ⊥) → word key′ v ≤ weight G v s + word key′ s
           next-relaxed v s a j g h =
@@ -201,7 +189,7 @@ module _ {G : Graph} {start end : ℕ} {bound : ℕ → ℕ} {bounds waiting : L
                 | yes o ↦
                     let g′ : G .Edge v u = subst (λ (k : ℕ). G .Edge v k) q g in
                     omega (arith, x .short v (o, g′), ap (λ (k : ℕ). weight G v k + word key k) q)
-                | no o ↦ omega (arith, kept v o, below-u v a o, i .bounding .consistent .step v u, ap (λ (k : ℕ). weight G v k + word key k) q)
+                | no o ↦ omega (arith, kept v o, below-u v a o, i .consistent .step v u, ap (λ (k : ℕ). weight G v k + word key k) q)
               ])
               (λ b. omega (arith, x .down v, i .relaxed v s a j g b))
               (settled-before s h)
@@ -226,11 +214,11 @@ module _ {G : Graph} {start end : ℕ} {bound : ℕ → ℕ} {bounds waiting : L
               })
               (x .came v)
 
-          pub next : Inv G start end bound bounds rest (n - 1) key′
+          pub next : Inv G start end bound rest (n - 1) key′
           next =
               record {
                 sized = i .sized;
-                bounding = i .bounding;
+                consistent = i .consistent;
                 keyed = x .same ∙ i .keyed;
                 only = λ v o. i .only v (was-open v o);
                 target = still-open start not-start (i .target);
