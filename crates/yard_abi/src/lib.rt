@@ -1,7 +1,4 @@
 // The calls of the yard for C and Rust. Each has the contract of the call under it; a slice is passed as a pointer and a length in elements.
-ghost use mathlib.Core.Path.{_≡_};
-ghost use mathlib.Core.List.{[], _∷_};
-ghost use lib.ListN.{length};
 ghost use Rattle.geometry.specs.Words.{point};
 ghost use Rattle.tables.specs.Tables.{tables, stored};
 ghost use Rattle.book.specs.Book.{addBlock, removeBlock, moveBlock, addRun, removeRun, moveRun, setCharge};
@@ -12,10 +9,9 @@ ghost use Rattle.counter.specs.Quote.{RouteQuoted};
 ghost use Rattle.ducts.specs.Quote.{DuctQuoted};
 ghost use Rattle.drawn_routes.specs.Lists.{PieceFilled, BendFilled};
 ghost use Rattle.convert.specs.Convert.{ConvertedInto};
-ghost use Rattle.yard_abi.specs.Reading.{ReadInto};
-ghost use Rattle.yard_abi.specs.Replaying.{ReplayedInto};
+ghost use Rattle.file_calls.specs.Reading.{ReadInto};
+ghost use Rattle.file_calls.specs.Replaying.{ReplayedInto};
 use geometry::Place;
-use yardfile::Reading;
 
 #[no_mangle]
 pub extern "C" fn yard_start(
@@ -306,51 +302,12 @@ pub extern "C" fn yard_check(
     yard::check(blocks, runs, pairs, routes, totals)
 }
 
-// Four words into a lent list.
-fn put_item(item: &mut [u64], kind: u64, number: u64, fields: u64, next: u64)
-    requires { ⌜ length (now item) ≡ 4 ⌝ }
-    ensures { λ r. ⌜ now (item .exit) ≡ kind ∷ number ∷ fields ∷ next ∷ [] ⌝ }
-{
-    item[0] = kind;
-    item[1] = number;
-    item[2] = fields;
-    item[3] = next;
-}
-
 // The record of a yard file at a position, as four words: its kind, its number, where its fields start, and the position after it.
 #[no_mangle]
 pub extern "C" fn yard_read(file: &[u8], at: usize, item: &mut [u64]) -> u32
     ensures { λ r. ⌜ ReadInto (now (file .entry)) at (now (item .entry)) r (now (item .exit)) ⌝ }
 {
-    if item.len() != 4 {
-        return 1;
-    }
-    match yardfile::read_from(file, at) {
-        Reading::Found(found) => {
-            put_item(
-                item,
-                found.kind as u64,
-                found.number as u64,
-                found.fields as u64,
-                found.next as u64,
-            );
-            0
-        }
-        Reading::End => {
-            put_item(item, 0, 0, 0, at as u64);
-            0
-        }
-        Reading::Refused(number) => number,
-    }
-}
-
-// Two words into a lent list.
-fn put_end(end: &mut [u64], count: u64, at: u64)
-    requires { ⌜ length (now end) ≡ 2 ⌝ }
-    ensures { λ r. ⌜ now (end .exit) ≡ count ∷ at ∷ [] ⌝ }
-{
-    end[0] = count;
-    end[1] = at;
+    file_calls::read_into(file, at, item)
 }
 
 // The edits of a yard file, called in order up to its end or its stop; their answers, and two words: how many they are, and the position there.
@@ -370,15 +327,7 @@ pub extern "C" fn yard_replay(
         (now (answers .entry)) (now (end .entry)) r (now (answers .exit)) (now (end .exit))
         (tables (now (blocks .exit)) (now (runs .exit)) (now (pairs .exit)) (now (routes .exit)) (now (totals .exit))) ⌝ }
 {
-    if end.len() != 2 {
-        return 1;
-    }
-    let outcome = replay::replay(file, blocks, runs, pairs, routes, totals, answers);
-    if outcome.number == 1 {
-        return 1;
-    }
-    put_end(end, outcome.count as u64, outcome.at as u64);
-    outcome.number
+    file_calls::replay_into(blocks, runs, pairs, routes, totals, file, answers, end)
 }
 
 #[no_mangle]

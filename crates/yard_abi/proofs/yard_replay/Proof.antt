@@ -1,36 +1,22 @@
-use Rattle.yard_abi.proofs.Replays.{no-end, no-room, replay-ends}
-use borrow.Author.Needs.{needs}
 use Rattle.yard_abi.proofs.yard_replay.Statement.{statement}
 use Rattle.yard_abi.proofs.yard_replay.Tie as tie
 
+abbrev called : tie.After-slice-known14 → tie.After-replay-into
+called c = c .before .before .before .before .before .before .before .before .before .before .before .before .before .before
+
 returns : tie.Need-returns
-returns c = search no-end
-
-returns-2 : tie.Need-returns-2
-returns-2 c = search no-room
-
-returns-3 : tie.Need-returns-3
-returns-3 c = search replay-ends
+returns c = called c .replay-into .ensures
 
 pub yard-replay-spec : {M : Type 1} → statement M
 yard-replay-spec =
     tie.close
     (tie.spec
-    returns
-    (λ c κs. search needs)
-    (λ c. search needs)
-    (λ c. search needs)
-    (λ c. search needs)
-    (λ c. search needs)
-    (λ c. search needs)
-    (λ c. search needs)
-    returns-2
-    (λ c κs. search needs)
-    (λ c. search needs)
-    (λ c. search needs)
-    (λ c. search needs)
-    (λ c. search needs)
-    (λ c. search needs)
-    (λ c. search needs)
-    (λ c. search needs)
-    returns-3)
+    (λ c κs. tt)
+    (λ c. called c .replay-into .kept .0)
+    (λ c. called c .replay-into .kept .1 .0)
+    (λ c. called c .replay-into .kept .1 .1 .0)
+    (λ c. called c .replay-into .kept .1 .1 .1 .0)
+    (λ c. called c .replay-into .kept .1 .1 .1 .1 .0)
+    (λ c. called c .replay-into .kept .1 .1 .1 .1 .1 .1 .0)
+    (λ c. called c .replay-into .kept .1 .1 .1 .1 .1 .1 .1 .0)
+    returns)

@@ -1,7 +1,7 @@
-use Rattle.yard_abi.proofs.Replays.{two-set}
+use Rattle.file_calls.proofs.Replays.{two-set}
 use borrow.Author.Needs.{needs}
-use Rattle.yard_abi.proofs.put_end.Statement.{statement}
-use Rattle.yard_abi.proofs.put_end.Tie as tie
+use Rattle.file_calls.proofs.put_end.Statement.{statement}
+use Rattle.file_calls.proofs.put_end.Tie as tie
 
 returns : tie.Need-returns
 returns c = search two-set

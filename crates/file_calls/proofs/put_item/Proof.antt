@@ -1,7 +1,7 @@
-use Rattle.yard_abi.proofs.Items.{four-set}
+use Rattle.file_calls.proofs.Items.{four-set}
 use borrow.Author.Needs.{needs}
-use Rattle.yard_abi.proofs.put_item.Statement.{statement}
-use Rattle.yard_abi.proofs.put_item.Tie as tie
+use Rattle.file_calls.proofs.put_item.Statement.{statement}
+use Rattle.file_calls.proofs.put_item.Tie as tie
 
 returns : tie.Need-returns
 returns c = search four-set

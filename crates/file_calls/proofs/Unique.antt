@@ -5,8 +5,8 @@ use Prim.Native.Nat.{ℕ}
 use native.Mathlib.Omega.{arith}
 use Rattle.tables.specs.Tables.{Tables}
 use Rattle.replay.proofs.Drawn.{called-edits-unique}
-use Rattle.yard_abi.specs.Reading.{ReadInto, wrongLength, aRecord, theEnd, refusal}
-use Rattle.yard_abi.specs.Replaying.{ReplayedInto, wrongLengths, theReplay}
+use Rattle.file_calls.specs.Reading.{ReadInto, wrongLength, aRecord, theEnd, refusal}
+use Rattle.file_calls.specs.Replaying.{ReplayedInto, wrongLengths, theReplay}
 
 pub read-into-unique : {f : List ℕ} {at : ℕ} {old ws ws′ : List ℕ} {n n′ : ℕ} → ReadInto f at old n ws → ReadInto f at old n′ ws′
     → (n ≡ n′) × (ws ≡ ws′)

@@ -1,8 +1,8 @@
-use Rattle.yard_abi.specs.Reading.{wrongLength}
-use Rattle.yard_abi.proofs.Items.{read-record, read-end, read-refused}
+use Rattle.file_calls.specs.Reading.{wrongLength}
+use Rattle.file_calls.proofs.Items.{read-record, read-end, read-refused}
 use borrow.Author.Needs.{needs}
-use Rattle.yard_abi.proofs.yard_read.Statement.{statement}
-use Rattle.yard_abi.proofs.yard_read.Tie as tie
+use Rattle.file_calls.proofs.read_into.Statement.{statement}
+use Rattle.file_calls.proofs.read_into.Tie as tie
 
 returns : tie.Need-returns
 returns c = wrongLength (c .if1 .taken)
@@ -16,8 +16,8 @@ returns-3 c = search read-end
 returns-4 : tie.Need-returns-4
 returns-4 c = search read-refused
 
-pub yard-read-spec : {M : Type 1} → statement M
-yard-read-spec =
+pub read-into-spec : {M : Type 1} → statement M
+read-into-spec =
     tie.close
     (tie.spec
     returns

@@ -7,7 +7,7 @@ use lib.ListN.{length, set}
 use Rattle.tables.specs.Tables.{Tables}
 use Rattle.replay.specs.Replay.{Replayed, tooShort, whole}
 use Rattle.replay.proofs.Numbers.{reads-not-one}
-use Rattle.yard_abi.specs.Replaying.{ReplayedInto, wrongLengths, theReplay}
+use Rattle.file_calls.specs.Replaying.{ReplayedInto, wrongLengths, theReplay}
 
 pub two-set : (l : List ℕ) (a b : ℕ) → length l ≡ 2 → set (set l 0 a) 1 b ≡ a ∷ b ∷ []
 two-set [] a b e = absurd (omega arith)

@@ -8,7 +8,7 @@ use Rattle.yardfile.specs.declared.Reading.{Reading}
 use Rattle.yardfile.specs.declared.Reading.the-variants.{Found, End, Refused}
 use Rattle.yardfile.specs.declared.Item.{Item}
 use Rattle.yardfile.specs.File.{readAt}
-use Rattle.yard_abi.specs.Reading.{ReadInto, aRecord, theEnd, refusal, itemWords}
+use Rattle.file_calls.specs.Reading.{ReadInto, aRecord, theEnd, refusal, itemWords}
 
 pub four-set : (l : List ℕ) (a b c d : ℕ) → length l ≡ 4 → set (set (set (set l 0 a) 1 b) 2 c) 3 d ≡ a ∷ b ∷ c ∷ d ∷ []
 four-set [] a b c d e = absurd (omega arith)
