@@ -8,45 +8,45 @@ extern "C" {
         b: *mut u16, bl: usize, r: *mut u16, rl: usize, p: *mut u8, pl: usize, w: *mut u32, wl: usize, t: *mut u32, tl: usize,
     ) -> u32;
     pub fn yard_add_block(
-        b: *mut u16, bl: usize, r: *mut u16, rl: usize, p: *mut u8, pl: usize, w: *mut u32, wl: usize, t: *mut u32, tl: usize,
+        b: *mut u16, bl: usize, r: *const u16, rl: usize, p: *mut u8, pl: usize, w: *mut u32, wl: usize, t: *mut u32, tl: usize,
         number: u32, corners: *const u16, corners_len: usize,
     ) -> u32;
     pub fn yard_remove_block(
-        b: *mut u16, bl: usize, r: *mut u16, rl: usize, p: *mut u8, pl: usize, w: *mut u32, wl: usize, t: *mut u32, tl: usize,
+        b: *mut u16, bl: usize, r: *const u16, rl: usize, p: *mut u8, pl: usize, w: *mut u32, wl: usize, t: *mut u32, tl: usize,
         number: u32,
     ) -> u32;
     pub fn yard_move_block(
-        b: *mut u16, bl: usize, r: *mut u16, rl: usize, p: *mut u8, pl: usize, w: *mut u32, wl: usize, t: *mut u32, tl: usize,
+        b: *mut u16, bl: usize, r: *const u16, rl: usize, p: *mut u8, pl: usize, w: *mut u32, wl: usize, t: *mut u32, tl: usize,
         number: u32, east: i16, north: i16,
     ) -> u32;
     pub fn yard_add_run(
-        b: *mut u16, bl: usize, r: *mut u16, rl: usize, p: *mut u8, pl: usize, w: *mut u32, wl: usize, t: *mut u32, tl: usize,
+        b: *const u16, bl: usize, r: *mut u16, rl: usize, p: *mut u8, pl: usize, w: *mut u32, wl: usize, t: *mut u32, tl: usize,
         number: u32, e0: u16, n0: u16, e1: u16, n1: u16,
     ) -> u32;
     pub fn yard_remove_run(
-        b: *mut u16, bl: usize, r: *mut u16, rl: usize, p: *mut u8, pl: usize, w: *mut u32, wl: usize, t: *mut u32, tl: usize,
+        b: *const u16, bl: usize, r: *mut u16, rl: usize, p: *mut u8, pl: usize, w: *mut u32, wl: usize, t: *mut u32, tl: usize,
         number: u32,
     ) -> u32;
     pub fn yard_move_run(
-        b: *mut u16, bl: usize, r: *mut u16, rl: usize, p: *mut u8, pl: usize, w: *mut u32, wl: usize, t: *mut u32, tl: usize,
+        b: *const u16, bl: usize, r: *mut u16, rl: usize, p: *mut u8, pl: usize, w: *mut u32, wl: usize, t: *mut u32, tl: usize,
         number: u32, e0: u16, n0: u16, e1: u16, n1: u16,
     ) -> u32;
     pub fn yard_set_charge(
-        b: *mut u16, bl: usize, r: *mut u16, rl: usize, p: *mut u8, pl: usize, w: *mut u32, wl: usize, t: *mut u32, tl: usize,
+        b: *const u16, bl: usize, r: *mut u16, rl: usize, p: *const u8, pl: usize, w: *mut u32, wl: usize, t: *mut u32, tl: usize,
         figure: u16,
     ) -> u32;
     pub fn yard_add_run_for(
-        b: *mut u16, bl: usize, r: *mut u16, rl: usize, p: *mut u8, pl: usize, w: *mut u32, wl: usize, t: *mut u32, tl: usize,
+        b: *const u16, bl: usize, r: *mut u16, rl: usize, p: *mut u8, pl: usize, w: *mut u32, wl: usize, t: *mut u32, tl: usize,
         holders: *mut u8, holders_len: usize, shares: *const u8, shares_len: usize, ceilings: *const u8, ceilings_len: usize,
         contractor: u32, number: u32, e0: u16, n0: u16, e1: u16, n1: u16,
     ) -> u32;
     pub fn yard_remove_run_for(
-        b: *mut u16, bl: usize, r: *mut u16, rl: usize, p: *mut u8, pl: usize, w: *mut u32, wl: usize, t: *mut u32, tl: usize,
+        b: *const u16, bl: usize, r: *mut u16, rl: usize, p: *mut u8, pl: usize, w: *mut u32, wl: usize, t: *mut u32, tl: usize,
         holders: *mut u8, holders_len: usize, shares: *const u8, shares_len: usize, ceilings: *const u8, ceilings_len: usize,
         contractor: u32, number: u32,
     ) -> u32;
     pub fn yard_move_run_for(
-        b: *mut u16, bl: usize, r: *mut u16, rl: usize, p: *mut u8, pl: usize, w: *mut u32, wl: usize, t: *mut u32, tl: usize,
+        b: *const u16, bl: usize, r: *mut u16, rl: usize, p: *mut u8, pl: usize, w: *mut u32, wl: usize, t: *mut u32, tl: usize,
         holders: *const u8, holders_len: usize, shares: *const u8, shares_len: usize, ceilings: *const u8, ceilings_len: usize,
         contractor: u32, number: u32, e0: u16, n0: u16, e1: u16, n1: u16,
     ) -> u32;

@@ -128,33 +128,33 @@ uint32_t yard_start(uint16_t *blocks, size_t blocks_len, uint16_t *runs, size_t 
                     size_t pairs_len, uint32_t *routes, size_t routes_len, uint32_t *totals, size_t totals_len);
 
 /* corners: east then north of each corner, anticlockwise; corners_len counts words, 6 to 16. Answers 0 to 4, 6 to 8. */
-uint32_t yard_add_block(uint16_t *blocks, size_t blocks_len, uint16_t *runs, size_t runs_len, uint8_t *pairs,
+uint32_t yard_add_block(uint16_t *blocks, size_t blocks_len, const uint16_t *runs, size_t runs_len, uint8_t *pairs,
                         size_t pairs_len, uint32_t *routes, size_t routes_len, uint32_t *totals, size_t totals_len,
                         uint32_t number, const uint16_t *corners, size_t corners_len);
 
 /* Answers 0 to 3 and 5. */
-uint32_t yard_remove_block(uint16_t *blocks, size_t blocks_len, uint16_t *runs, size_t runs_len, uint8_t *pairs,
+uint32_t yard_remove_block(uint16_t *blocks, size_t blocks_len, const uint16_t *runs, size_t runs_len, uint8_t *pairs,
                            size_t pairs_len, uint32_t *routes, size_t routes_len, uint32_t *totals, size_t totals_len,
                            uint32_t number);
 
 /* Move every corner by a displacement. Answers 0 to 3, 5 and 7. */
-uint32_t yard_move_block(uint16_t *blocks, size_t blocks_len, uint16_t *runs, size_t runs_len, uint8_t *pairs,
+uint32_t yard_move_block(uint16_t *blocks, size_t blocks_len, const uint16_t *runs, size_t runs_len, uint8_t *pairs,
                          size_t pairs_len, uint32_t *routes, size_t routes_len, uint32_t *totals, size_t totals_len,
                          uint32_t number, int16_t east, int16_t north);
 
 /* Answers 0 to 4 and 7. */
-uint32_t yard_add_run(uint16_t *blocks, size_t blocks_len, uint16_t *runs, size_t runs_len, uint8_t *pairs,
+uint32_t yard_add_run(const uint16_t *blocks, size_t blocks_len, uint16_t *runs, size_t runs_len, uint8_t *pairs,
                       size_t pairs_len, uint32_t *routes, size_t routes_len, uint32_t *totals, size_t totals_len,
                       uint32_t number, uint16_t first_east, uint16_t first_north, uint16_t second_east,
                       uint16_t second_north);
 
 /* Answers 0 to 3 and 5. */
-uint32_t yard_remove_run(uint16_t *blocks, size_t blocks_len, uint16_t *runs, size_t runs_len, uint8_t *pairs,
+uint32_t yard_remove_run(const uint16_t *blocks, size_t blocks_len, uint16_t *runs, size_t runs_len, uint8_t *pairs,
                          size_t pairs_len, uint32_t *routes, size_t routes_len, uint32_t *totals, size_t totals_len,
                          uint32_t number);
 
 /* Both ends new. Answers 0 to 3, 5 and 7. */
-uint32_t yard_move_run(uint16_t *blocks, size_t blocks_len, uint16_t *runs, size_t runs_len, uint8_t *pairs,
+uint32_t yard_move_run(const uint16_t *blocks, size_t blocks_len, uint16_t *runs, size_t runs_len, uint8_t *pairs,
                        size_t pairs_len, uint32_t *routes, size_t routes_len, uint32_t *totals, size_t totals_len,
                        uint32_t number, uint16_t first_east, uint16_t first_north, uint16_t second_east,
                        uint16_t second_north);
@@ -163,9 +163,9 @@ uint32_t yard_move_run(uint16_t *blocks, size_t blocks_len, uint16_t *runs, size
  * Set the least charge of a straight, from 0 to 1,000. Every route is made anew by pairs as they stand, right or wrong,
  * and totals with them; pairs are kept. Answers 0 to 2 and 13.
  */
-uint32_t yard_set_charge(uint16_t *blocks, size_t blocks_len, uint16_t *runs, size_t runs_len, uint8_t *pairs,
-                         size_t pairs_len, uint32_t *routes, size_t routes_len, uint32_t *totals, size_t totals_len,
-                         uint16_t figure);
+uint32_t yard_set_charge(const uint16_t *blocks, size_t blocks_len, uint16_t *runs, size_t runs_len,
+                         const uint8_t *pairs, size_t pairs_len, uint32_t *routes, size_t routes_len, uint32_t *totals,
+                         size_t totals_len, uint16_t figure);
 
 /*
  * Shares among contractors. Up to four contractors, 0 to 3, draw on one yard, so that none takes all 24 run numbers.
@@ -205,20 +205,20 @@ struct yard_shares {
     (all)->holders, YARD_HOLDERS_LEN, (all)->shares, YARD_CONTRACTORS, (all)->ceilings, YARD_CONTRACTORS
 
 /* Answers 0 to 4, 7 and 18 to 20. */
-uint32_t yard_add_run_for(uint16_t *blocks, size_t blocks_len, uint16_t *runs, size_t runs_len, uint8_t *pairs,
+uint32_t yard_add_run_for(const uint16_t *blocks, size_t blocks_len, uint16_t *runs, size_t runs_len, uint8_t *pairs,
                           size_t pairs_len, uint32_t *routes, size_t routes_len, uint32_t *totals, size_t totals_len,
                           uint8_t *holders, size_t holders_len, const uint8_t *shares, size_t shares_len,
                           const uint8_t *ceilings, size_t ceilings_len, uint32_t contractor, uint32_t number,
                           uint16_t first_east, uint16_t first_north, uint16_t second_east, uint16_t second_north);
 
 /* Answers 0 to 3, 5 and 18. */
-uint32_t yard_remove_run_for(uint16_t *blocks, size_t blocks_len, uint16_t *runs, size_t runs_len, uint8_t *pairs,
+uint32_t yard_remove_run_for(const uint16_t *blocks, size_t blocks_len, uint16_t *runs, size_t runs_len, uint8_t *pairs,
                              size_t pairs_len, uint32_t *routes, size_t routes_len, uint32_t *totals, size_t totals_len,
                              uint8_t *holders, size_t holders_len, const uint8_t *shares, size_t shares_len,
                              const uint8_t *ceilings, size_t ceilings_len, uint32_t contractor, uint32_t number);
 
 /* Answers 0 to 3, 5, 7 and 18. */
-uint32_t yard_move_run_for(uint16_t *blocks, size_t blocks_len, uint16_t *runs, size_t runs_len, uint8_t *pairs,
+uint32_t yard_move_run_for(const uint16_t *blocks, size_t blocks_len, uint16_t *runs, size_t runs_len, uint8_t *pairs,
                            size_t pairs_len, uint32_t *routes, size_t routes_len, uint32_t *totals, size_t totals_len,
                            const uint8_t *holders, size_t holders_len, const uint8_t *shares, size_t shares_len,
                            const uint8_t *ceilings, size_t ceilings_len, uint32_t contractor, uint32_t number,

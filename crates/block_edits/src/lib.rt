@@ -63,7 +63,7 @@ fn erase_block(
 // Block number with the corners lent, east then north.
 pub fn add_block(
     blocks: &mut [u16],
-    runs: &mut [u16],
+    runs: &[u16],
     pairs: &mut [u8],
     routes: &mut [u32],
     totals: &mut [u32],
@@ -72,7 +72,7 @@ pub fn add_block(
 ) -> u32
     ensures { λ r. ⌜ Called (addBlock number (now (corners .entry)))
         (tables (now (blocks .entry)) (now (runs .entry)) (now (pairs .entry)) (now (routes .entry)) (now (totals .entry)))
-        r (tables (now (blocks .exit)) (now (runs .exit)) (now (pairs .exit)) (now (routes .exit)) (now (totals .exit))) ⌝ }
+        r (tables (now (blocks .exit)) (now (runs .entry)) (now (pairs .exit)) (now (routes .exit)) (now (totals .exit))) ⌝ }
 {
     let v = add_block_answer(blocks, runs, pairs, routes, totals, number, corners);
     if v != 0 {
@@ -85,7 +85,7 @@ pub fn add_block(
 
 pub fn remove_block(
     blocks: &mut [u16],
-    runs: &mut [u16],
+    runs: &[u16],
     pairs: &mut [u8],
     routes: &mut [u32],
     totals: &mut [u32],
@@ -93,7 +93,7 @@ pub fn remove_block(
 ) -> u32
     ensures { λ r. ⌜ Called (removeBlock number)
         (tables (now (blocks .entry)) (now (runs .entry)) (now (pairs .entry)) (now (routes .entry)) (now (totals .entry)))
-        r (tables (now (blocks .exit)) (now (runs .exit)) (now (pairs .exit)) (now (routes .exit)) (now (totals .exit))) ⌝ }
+        r (tables (now (blocks .exit)) (now (runs .entry)) (now (pairs .exit)) (now (routes .exit)) (now (totals .exit))) ⌝ }
 {
     let v = remove_block_answer(blocks, runs, pairs, routes, totals, number);
     if v != 0 {
@@ -106,7 +106,7 @@ pub fn remove_block(
 // Block number moved by a displacement.
 pub fn move_block(
     blocks: &mut [u16],
-    runs: &mut [u16],
+    runs: &[u16],
     pairs: &mut [u8],
     routes: &mut [u32],
     totals: &mut [u32],
@@ -116,7 +116,7 @@ pub fn move_block(
 ) -> u32
     ensures { λ r. ⌜ Called (moveBlock number east north)
         (tables (now (blocks .entry)) (now (runs .entry)) (now (pairs .entry)) (now (routes .entry)) (now (totals .entry)))
-        r (tables (now (blocks .exit)) (now (runs .exit)) (now (pairs .exit)) (now (routes .exit)) (now (totals .exit))) ⌝ }
+        r (tables (now (blocks .exit)) (now (runs .entry)) (now (pairs .exit)) (now (routes .exit)) (now (totals .exit))) ⌝ }
 {
     let v = move_block_answer(blocks, runs, pairs, routes, totals, number, east, north);
     if v != 0 {

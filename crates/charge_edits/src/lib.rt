@@ -31,16 +31,16 @@ fn replace_figure(
 }
 
 pub fn set_charge(
-    blocks: &mut [u16],
+    blocks: &[u16],
     runs: &mut [u16],
-    pairs: &mut [u8],
+    pairs: &[u8],
     routes: &mut [u32],
     totals: &mut [u32],
     figure: u16,
 ) -> u32
     ensures { λ r. ⌜ Called (setCharge figure)
         (tables (now (blocks .entry)) (now (runs .entry)) (now (pairs .entry)) (now (routes .entry)) (now (totals .entry)))
-        r (tables (now (blocks .exit)) (now (runs .exit)) (now (pairs .exit)) (now (routes .exit)) (now (totals .exit))) ⌝ }
+        r (tables (now (blocks .entry)) (now (runs .exit)) (now (pairs .entry)) (now (routes .exit)) (now (totals .exit))) ⌝ }
 {
     let v = set_charge_answer(blocks, runs, pairs, routes, totals, figure);
     if v != 0 {

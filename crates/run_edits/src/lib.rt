@@ -39,7 +39,7 @@ fn replace_run(
 }
 
 pub fn add_run(
-    blocks: &mut [u16],
+    blocks: &[u16],
     runs: &mut [u16],
     pairs: &mut [u8],
     routes: &mut [u32],
@@ -50,7 +50,7 @@ pub fn add_run(
 ) -> u32
     ensures { λ r. ⌜ Called (addRun number (pointOf first) (pointOf second))
         (tables (now (blocks .entry)) (now (runs .entry)) (now (pairs .entry)) (now (routes .entry)) (now (totals .entry)))
-        r (tables (now (blocks .exit)) (now (runs .exit)) (now (pairs .exit)) (now (routes .exit)) (now (totals .exit))) ⌝ }
+        r (tables (now (blocks .entry)) (now (runs .exit)) (now (pairs .exit)) (now (routes .exit)) (now (totals .exit))) ⌝ }
 {
     let v = add_run_answer(blocks, runs, pairs, routes, totals, number, first, second);
     if v != 0 {
@@ -62,7 +62,7 @@ pub fn add_run(
 }
 
 pub fn remove_run(
-    blocks: &mut [u16],
+    blocks: &[u16],
     runs: &mut [u16],
     pairs: &mut [u8],
     routes: &mut [u32],
@@ -71,7 +71,7 @@ pub fn remove_run(
 ) -> u32
     ensures { λ r. ⌜ Called (removeRun number)
         (tables (now (blocks .entry)) (now (runs .entry)) (now (pairs .entry)) (now (routes .entry)) (now (totals .entry)))
-        r (tables (now (blocks .exit)) (now (runs .exit)) (now (pairs .exit)) (now (routes .exit)) (now (totals .exit))) ⌝ }
+        r (tables (now (blocks .entry)) (now (runs .exit)) (now (pairs .exit)) (now (routes .exit)) (now (totals .exit))) ⌝ }
 {
     let v = remove_run_answer(blocks, runs, pairs, routes, totals, number);
     if v != 0 {
@@ -84,7 +84,7 @@ pub fn remove_run(
 
 // Run number with both ends new.
 pub fn move_run(
-    blocks: &mut [u16],
+    blocks: &[u16],
     runs: &mut [u16],
     pairs: &mut [u8],
     routes: &mut [u32],
@@ -95,7 +95,7 @@ pub fn move_run(
 ) -> u32
     ensures { λ r. ⌜ Called (moveRun number (pointOf first) (pointOf second))
         (tables (now (blocks .entry)) (now (runs .entry)) (now (pairs .entry)) (now (routes .entry)) (now (totals .entry)))
-        r (tables (now (blocks .exit)) (now (runs .exit)) (now (pairs .exit)) (now (routes .exit)) (now (totals .exit))) ⌝ }
+        r (tables (now (blocks .entry)) (now (runs .exit)) (now (pairs .exit)) (now (routes .exit)) (now (totals .exit))) ⌝ }
 {
     let v = move_run_answer(blocks, runs, pairs, routes, totals, number, first, second);
     if v != 0 {

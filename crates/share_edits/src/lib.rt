@@ -110,7 +110,7 @@ fn own_answer_over(
 
 // A run added in a contractor's name.
 pub fn add_run_for(
-    blocks: &mut [u16],
+    blocks: &[u16],
     runs: &mut [u16],
     pairs: &mut [u8],
     routes: &mut [u32],
@@ -125,7 +125,7 @@ pub fn add_run_for(
 ) -> u32
     ensures { λ r. ⌜ CalledFor (addRunFor contractor number (pointOf first) (pointOf second)) (terms (now (shares .entry)) (now (ceilings .entry)))
         (tables (now (blocks .entry)) (now (runs .entry)) (now (pairs .entry)) (now (routes .entry)) (now (totals .entry))) (now (holders .entry))
-        r (tables (now (blocks .exit)) (now (runs .exit)) (now (pairs .exit)) (now (routes .exit)) (now (totals .exit))) (now (holders .exit)) ⌝ }
+        r (tables (now (blocks .entry)) (now (runs .exit)) (now (pairs .exit)) (now (routes .exit)) (now (totals .exit))) (now (holders .exit)) ⌝ }
 {
     let v = add_answer_over(
         blocks,
@@ -152,7 +152,7 @@ pub fn add_run_for(
 
 // A contractor's own run removed.
 pub fn remove_run_for(
-    blocks: &mut [u16],
+    blocks: &[u16],
     runs: &mut [u16],
     pairs: &mut [u8],
     routes: &mut [u32],
@@ -165,7 +165,7 @@ pub fn remove_run_for(
 ) -> u32
     ensures { λ r. ⌜ CalledFor (removeRunFor contractor number) (terms (now (shares .entry)) (now (ceilings .entry)))
         (tables (now (blocks .entry)) (now (runs .entry)) (now (pairs .entry)) (now (routes .entry)) (now (totals .entry))) (now (holders .entry))
-        r (tables (now (blocks .exit)) (now (runs .exit)) (now (pairs .exit)) (now (routes .exit)) (now (totals .exit))) (now (holders .exit)) ⌝ }
+        r (tables (now (blocks .entry)) (now (runs .exit)) (now (pairs .exit)) (now (routes .exit)) (now (totals .exit))) (now (holders .exit)) ⌝ }
 {
     let v = own_answer_over(
         blocks,
@@ -189,7 +189,7 @@ pub fn remove_run_for(
 
 // A contractor's own run with both ends new.
 pub fn move_run_for(
-    blocks: &mut [u16],
+    blocks: &[u16],
     runs: &mut [u16],
     pairs: &mut [u8],
     routes: &mut [u32],
@@ -204,7 +204,7 @@ pub fn move_run_for(
 ) -> u32
     ensures { λ r. ⌜ CalledFor (moveRunFor contractor number (pointOf first) (pointOf second)) (terms (now (shares .entry)) (now (ceilings .entry)))
         (tables (now (blocks .entry)) (now (runs .entry)) (now (pairs .entry)) (now (routes .entry)) (now (totals .entry))) (now (holders .entry))
-        r (tables (now (blocks .exit)) (now (runs .exit)) (now (pairs .exit)) (now (routes .exit)) (now (totals .exit))) (now (holders .entry)) ⌝ }
+        r (tables (now (blocks .entry)) (now (runs .exit)) (now (pairs .exit)) (now (routes .exit)) (now (totals .exit))) (now (holders .entry)) ⌝ }
 {
     let v = own_answer_over(
         blocks,

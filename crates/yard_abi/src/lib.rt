@@ -30,7 +30,7 @@ pub extern "C" fn yard_start(
 #[no_mangle]
 pub extern "C" fn yard_add_block(
     blocks: &mut [u16],
-    runs: &mut [u16],
+    runs: &[u16],
     pairs: &mut [u8],
     routes: &mut [u32],
     totals: &mut [u32],
@@ -39,7 +39,7 @@ pub extern "C" fn yard_add_block(
 ) -> u32
     ensures { λ r. ⌜ Called (addBlock number (now (corners .entry)))
         (tables (now (blocks .entry)) (now (runs .entry)) (now (pairs .entry)) (now (routes .entry)) (now (totals .entry)))
-        r (tables (now (blocks .exit)) (now (runs .exit)) (now (pairs .exit)) (now (routes .exit)) (now (totals .exit))) ⌝ }
+        r (tables (now (blocks .exit)) (now (runs .entry)) (now (pairs .exit)) (now (routes .exit)) (now (totals .exit))) ⌝ }
 {
     block_edits::add_block(blocks, runs, pairs, routes, totals, number, corners)
 }
@@ -47,7 +47,7 @@ pub extern "C" fn yard_add_block(
 #[no_mangle]
 pub extern "C" fn yard_remove_block(
     blocks: &mut [u16],
-    runs: &mut [u16],
+    runs: &[u16],
     pairs: &mut [u8],
     routes: &mut [u32],
     totals: &mut [u32],
@@ -55,7 +55,7 @@ pub extern "C" fn yard_remove_block(
 ) -> u32
     ensures { λ r. ⌜ Called (removeBlock number)
         (tables (now (blocks .entry)) (now (runs .entry)) (now (pairs .entry)) (now (routes .entry)) (now (totals .entry)))
-        r (tables (now (blocks .exit)) (now (runs .exit)) (now (pairs .exit)) (now (routes .exit)) (now (totals .exit))) ⌝ }
+        r (tables (now (blocks .exit)) (now (runs .entry)) (now (pairs .exit)) (now (routes .exit)) (now (totals .exit))) ⌝ }
 {
     block_edits::remove_block(blocks, runs, pairs, routes, totals, number)
 }
@@ -63,7 +63,7 @@ pub extern "C" fn yard_remove_block(
 #[no_mangle]
 pub extern "C" fn yard_move_block(
     blocks: &mut [u16],
-    runs: &mut [u16],
+    runs: &[u16],
     pairs: &mut [u8],
     routes: &mut [u32],
     totals: &mut [u32],
@@ -73,14 +73,14 @@ pub extern "C" fn yard_move_block(
 ) -> u32
     ensures { λ r. ⌜ Called (moveBlock number east north)
         (tables (now (blocks .entry)) (now (runs .entry)) (now (pairs .entry)) (now (routes .entry)) (now (totals .entry)))
-        r (tables (now (blocks .exit)) (now (runs .exit)) (now (pairs .exit)) (now (routes .exit)) (now (totals .exit))) ⌝ }
+        r (tables (now (blocks .exit)) (now (runs .entry)) (now (pairs .exit)) (now (routes .exit)) (now (totals .exit))) ⌝ }
 {
     block_edits::move_block(blocks, runs, pairs, routes, totals, number, east, north)
 }
 
 #[no_mangle]
 pub extern "C" fn yard_add_run(
-    blocks: &mut [u16],
+    blocks: &[u16],
     runs: &mut [u16],
     pairs: &mut [u8],
     routes: &mut [u32],
@@ -93,7 +93,7 @@ pub extern "C" fn yard_add_run(
 ) -> u32
     ensures { λ r. ⌜ Called (addRun number (point «first_east» «first_north») (point «second_east» «second_north»))
         (tables (now (blocks .entry)) (now (runs .entry)) (now (pairs .entry)) (now (routes .entry)) (now (totals .entry)))
-        r (tables (now (blocks .exit)) (now (runs .exit)) (now (pairs .exit)) (now (routes .exit)) (now (totals .exit))) ⌝ }
+        r (tables (now (blocks .entry)) (now (runs .exit)) (now (pairs .exit)) (now (routes .exit)) (now (totals .exit))) ⌝ }
 {
     let first = Place {
         east: first_east,
@@ -108,7 +108,7 @@ pub extern "C" fn yard_add_run(
 
 #[no_mangle]
 pub extern "C" fn yard_remove_run(
-    blocks: &mut [u16],
+    blocks: &[u16],
     runs: &mut [u16],
     pairs: &mut [u8],
     routes: &mut [u32],
@@ -117,14 +117,14 @@ pub extern "C" fn yard_remove_run(
 ) -> u32
     ensures { λ r. ⌜ Called (removeRun number)
         (tables (now (blocks .entry)) (now (runs .entry)) (now (pairs .entry)) (now (routes .entry)) (now (totals .entry)))
-        r (tables (now (blocks .exit)) (now (runs .exit)) (now (pairs .exit)) (now (routes .exit)) (now (totals .exit))) ⌝ }
+        r (tables (now (blocks .entry)) (now (runs .exit)) (now (pairs .exit)) (now (routes .exit)) (now (totals .exit))) ⌝ }
 {
     run_edits::remove_run(blocks, runs, pairs, routes, totals, number)
 }
 
 #[no_mangle]
 pub extern "C" fn yard_move_run(
-    blocks: &mut [u16],
+    blocks: &[u16],
     runs: &mut [u16],
     pairs: &mut [u8],
     routes: &mut [u32],
@@ -137,7 +137,7 @@ pub extern "C" fn yard_move_run(
 ) -> u32
     ensures { λ r. ⌜ Called (moveRun number (point «first_east» «first_north») (point «second_east» «second_north»))
         (tables (now (blocks .entry)) (now (runs .entry)) (now (pairs .entry)) (now (routes .entry)) (now (totals .entry)))
-        r (tables (now (blocks .exit)) (now (runs .exit)) (now (pairs .exit)) (now (routes .exit)) (now (totals .exit))) ⌝ }
+        r (tables (now (blocks .entry)) (now (runs .exit)) (now (pairs .exit)) (now (routes .exit)) (now (totals .exit))) ⌝ }
 {
     let first = Place {
         east: first_east,
@@ -152,23 +152,23 @@ pub extern "C" fn yard_move_run(
 
 #[no_mangle]
 pub extern "C" fn yard_set_charge(
-    blocks: &mut [u16],
+    blocks: &[u16],
     runs: &mut [u16],
-    pairs: &mut [u8],
+    pairs: &[u8],
     routes: &mut [u32],
     totals: &mut [u32],
     figure: u16,
 ) -> u32
     ensures { λ r. ⌜ Called (setCharge figure)
         (tables (now (blocks .entry)) (now (runs .entry)) (now (pairs .entry)) (now (routes .entry)) (now (totals .entry)))
-        r (tables (now (blocks .exit)) (now (runs .exit)) (now (pairs .exit)) (now (routes .exit)) (now (totals .exit))) ⌝ }
+        r (tables (now (blocks .entry)) (now (runs .exit)) (now (pairs .entry)) (now (routes .exit)) (now (totals .exit))) ⌝ }
 {
     charge_edits::set_charge(blocks, runs, pairs, routes, totals, figure)
 }
 
 #[no_mangle]
 pub extern "C" fn yard_add_run_for(
-    blocks: &mut [u16],
+    blocks: &[u16],
     runs: &mut [u16],
     pairs: &mut [u8],
     routes: &mut [u32],
@@ -186,7 +186,7 @@ pub extern "C" fn yard_add_run_for(
     ensures { λ r. ⌜ CalledFor (addRunFor contractor number (point «first_east» «first_north») (point «second_east» «second_north»))
         (terms (now (shares .entry)) (now (ceilings .entry)))
         (tables (now (blocks .entry)) (now (runs .entry)) (now (pairs .entry)) (now (routes .entry)) (now (totals .entry))) (now (holders .entry))
-        r (tables (now (blocks .exit)) (now (runs .exit)) (now (pairs .exit)) (now (routes .exit)) (now (totals .exit))) (now (holders .exit)) ⌝ }
+        r (tables (now (blocks .entry)) (now (runs .exit)) (now (pairs .exit)) (now (routes .exit)) (now (totals .exit))) (now (holders .exit)) ⌝ }
 {
     let first = Place {
         east: first_east,
@@ -214,7 +214,7 @@ pub extern "C" fn yard_add_run_for(
 
 #[no_mangle]
 pub extern "C" fn yard_remove_run_for(
-    blocks: &mut [u16],
+    blocks: &[u16],
     runs: &mut [u16],
     pairs: &mut [u8],
     routes: &mut [u32],
@@ -227,7 +227,7 @@ pub extern "C" fn yard_remove_run_for(
 ) -> u32
     ensures { λ r. ⌜ CalledFor (removeRunFor contractor number) (terms (now (shares .entry)) (now (ceilings .entry)))
         (tables (now (blocks .entry)) (now (runs .entry)) (now (pairs .entry)) (now (routes .entry)) (now (totals .entry))) (now (holders .entry))
-        r (tables (now (blocks .exit)) (now (runs .exit)) (now (pairs .exit)) (now (routes .exit)) (now (totals .exit))) (now (holders .exit)) ⌝ }
+        r (tables (now (blocks .entry)) (now (runs .exit)) (now (pairs .exit)) (now (routes .exit)) (now (totals .exit))) (now (holders .exit)) ⌝ }
 {
     share_edits::remove_run_for(
         blocks,
@@ -245,7 +245,7 @@ pub extern "C" fn yard_remove_run_for(
 
 #[no_mangle]
 pub extern "C" fn yard_move_run_for(
-    blocks: &mut [u16],
+    blocks: &[u16],
     runs: &mut [u16],
     pairs: &mut [u8],
     routes: &mut [u32],
@@ -263,7 +263,7 @@ pub extern "C" fn yard_move_run_for(
     ensures { λ r. ⌜ CalledFor (moveRunFor contractor number (point «first_east» «first_north») (point «second_east» «second_north»))
         (terms (now (shares .entry)) (now (ceilings .entry)))
         (tables (now (blocks .entry)) (now (runs .entry)) (now (pairs .entry)) (now (routes .entry)) (now (totals .entry))) (now (holders .entry))
-        r (tables (now (blocks .exit)) (now (runs .exit)) (now (pairs .exit)) (now (routes .exit)) (now (totals .exit))) (now (holders .entry)) ⌝ }
+        r (tables (now (blocks .entry)) (now (runs .exit)) (now (pairs .exit)) (now (routes .exit)) (now (totals .exit))) (now (holders .entry)) ⌝ }
 {
     let first = Place {
         east: first_east,

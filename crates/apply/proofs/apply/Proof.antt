@@ -10,7 +10,7 @@ returns : tie.Need-returns
 returns c = edit-one _ _ _ _ _ (c .before .before .before .before .before .before .before .before .before .before .before .before .before .before .before .before .if1 .taken) (c .before .before .before .before .before .before .before .before .before .before .add-block-at .ensures)
 
 returns-2 : tie.Need-returns-2
-returns-2 c = edit-two _ _ _ _ _ (c .before .before .before .before .before .before .before .before .before .before .before .before .before .before .before .before .if2 .taken) (c .before .before .before .before .before .before .before .before .before .before .remove-block .ensures)
+returns-2 c = edit-two _ _ _ _ _ (c .before .before .before .before .before .before .before .before .before .before .before .before .before .before .if2 .taken) (c .before .before .before .before .before .before .before .before .remove-block .ensures)
 
 move-block-at-requires : tie.Need-move-block-at-requires
 move-block-at-requires c κs = c .before .before .before .before .before .before .before .before .before .before .before .before .before .before .before .pre .shift (c .before .before .before .before .before .if3 .taken)
@@ -25,7 +25,7 @@ returns-4 : tie.Need-returns-4
 returns-4 c = edit-four _ _ _ _ _ (c .before .before .before .before .before .before .before .before .before .before .before .before .before .before .before .before .if4 .taken) (c .before .before .before .before .before .before .before .before .before .before .add-run-at .ensures)
 
 returns-5 : tie.Need-returns-5
-returns-5 c = edit-five _ _ _ _ _ (c .before .before .before .before .before .before .before .before .before .before .before .before .before .before .before .before .if5 .taken) (c .before .before .before .before .before .before .before .before .before .before .remove-run .ensures)
+returns-5 c = edit-five _ _ _ _ _ (c .before .before .before .before .before .before .before .before .before .before .before .before .before .before .if5 .taken) (c .before .before .before .before .before .before .before .before .remove-run .ensures)
 
 move-run-at-requires : tie.Need-move-run-at-requires
 move-run-at-requires c κs = c .before .before .before .before .before .before .before .before .before .before .before .before .before .before .before .before .before .before .pre .newEnds (c .before .before .before .before .before .if6 .taken)

@@ -7,7 +7,7 @@ use Rattle.block_edits.proofs.move_block.Tie as tie
 returns : tie.Need-returns
 returns c =
     let a = c .before in
-    let s = a .before .before .before .before .before .before .before .before .before .before .before in
+    let s = a .before .before .before .before .before .before .before .before .before .before in
     plain-move _ _ _ _ _ _ (s .fits .east) (s .fits .north) (refused _ _ _ (a .move-block-answer .ensures) (c .if1 .taken))
 
 part-moved-record-end : tie.Need-part-moved-record-end
@@ -20,7 +20,7 @@ moved-record-requires c κs =
 
 replace-block-requires : tie.Need-replace-block-requires
 replace-block-requires c κs =
-    let w = c .before .before .before .before .before .before in
+    let w = c .before .before .before .before .before in
     let e = w .before .before .before in
     let g = move-ready _ _ _ _ _ (e .before .move-block-answer .ensures) (e .if1 .left) in (
       (g .upright, move-upright _ _ _ _ _ (e .before .move-block-answer .ensures) (e .if1 .left) _ (w .moved-record .ensures), g .below),
@@ -30,9 +30,9 @@ replace-block-requires c κs =
 returns-2 : tie.Need-returns-2
 returns-2 c =
     let d = c .before .before .before .before .before .before .before .before in
-    let w = d .before .before .before .before .before .before .before in
+    let w = d .before .before .before .before .before .before in
     let e = w .before .before .before in
-    let s = e .before .before .before .before .before .before .before .before .before .before .before .before in
+    let s = e .before .before .before .before .before .before .before .before .before .before .before in
     plain-move _ _ _ _ _ _ (s .fits .east) (s .fits .north)
     (move-done _ _ _ _ _ (e .before .move-block-answer .ensures) (e .if1 .left) _ _ (w .moved-record .ensures) (d .replace-block .ensures))
 
@@ -41,7 +41,6 @@ move-block-spec =
     tie.close
     (tie.spec
     (λ c κs. search needs)
-    (λ c. search needs)
     (λ c. search needs)
     (λ c. search needs)
     (λ c. search needs)
@@ -57,7 +56,6 @@ move-block-spec =
     moved-record-requires
     (λ c. search needs)
     replace-block-requires
-    (λ c. search needs)
     (λ c. search needs)
     (λ c. search needs)
     (λ c. search needs)

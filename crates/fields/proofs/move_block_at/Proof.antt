@@ -7,7 +7,7 @@ use Rattle.fields.proofs.move_block_at.Tie as tie
 
 returns : tie.Need-returns
 returns c =
-    let m = c .before .before .before .before .before .before .before .before .before .before in
+    let m = c .before .before .before .before .before .before .before .before in
     let d = m .before .before in
     let g = d .before .before .before .before .before .before in
     shift-called _ _ _ _ _ _ _ _ (d .displacement .ok) (m .before .displacement2 .ok)

@@ -5,7 +5,7 @@ use Rattle.share_edits.proofs.remove_run_for.Tie as tie
 
 slice-write-holders : tie.Need-slice-write-holders
 slice-write-holders c =
-    let e = c .before .before .before .before .before .before .before .before .before .before .before .before .before .before .before .before in
+    let e = c .before .before .before .before .before .before .before .before .before .before .before .before .before in
     own-in _ _ _ _ _ _ (e .before .own-answer-over .ensures) (e .if1 .left)
 
 pub remove-run-for-spec : {M : Type 1} → statement M
@@ -18,11 +18,9 @@ remove-run-for-spec =
     (λ c. search needs)
     (λ c. search needs)
     (λ c. search needs)
-    (λ c. search needs)
     (λ c. search remove-refused)
     (λ c κs. search needs)
     slice-write-holders
-    (λ c. search needs)
     (λ c. search needs)
     (λ c. search needs)
     (λ c. search needs)

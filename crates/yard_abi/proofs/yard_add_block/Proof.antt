@@ -1,8 +1,8 @@
 use Rattle.yard_abi.proofs.yard_add_block.Statement.{statement}
 use Rattle.yard_abi.proofs.yard_add_block.Tie as tie
 
-abbrev called : tie.After-slice-known10 → tie.After-add-block
-called c = c .before .before .before .before .before .before .before .before .before .before
+abbrev called : tie.After-slice-known8 → tie.After-add-block
+called c = c .before .before .before .before .before .before .before .before
 
 returns : tie.Need-returns
 returns c = called c .add-block .ensures
@@ -13,7 +13,6 @@ yard-add-block-spec =
     (tie.spec
     (λ c κs. tt)
     (λ c. called c .add-block .kept .0)
-    (λ c. called c .add-block .kept .1 .0)
     (λ c. called c .add-block .kept .1 .1 .0)
     (λ c. called c .add-block .kept .1 .1 .1 .0)
     (λ c. called c .add-block .kept .1 .1 .1 .1 .0)
