@@ -1,6 +1,6 @@
 //! The pair table of the plain planner. Each mark has a code for each block, made once a call, of the sides that it is not
 //! strictly left of. Where two marks' codes share a bit, the block does not hide the straight between them, and they touch
-//! only where a mark is in line with that side.
+//! only where a mark belongs to the block or both are in line with that side.
 
 use super::{bits, block_words, corner, row, Place};
 use std::ops::Range;
@@ -138,8 +138,8 @@ pub struct Sights {
     masks: [u64; 24],
     /// Whether no two blocks can.
     alone: bool,
-    /// For each mark the blocks that can and that have a side in line with it, as bits.
-    lines: [u32; MARKS],
+    /// For each mark the blocks that can and that have a side in line with it, as bits, and 24 bits above those that it belongs to.
+    lines: [u64; MARKS],
 }
 
 impl Sights {
@@ -171,13 +171,18 @@ impl Sights {
         }
     }
 
-    /// The marks in line with a side of block n.
+    /// The marks in line with a side of block n, and of these, right of no side, those that belong to it.
     fn align(&mut self, n: usize) {
         let Sides { count, all } = &self.sides[n];
+        let mut said = [0u8; MARKS];
         for side in &all[..*count] {
-            for ((line, &east), &north) in self.lines.iter_mut().zip(&self.marks.east).zip(&self.marks.north) {
-                *line |= if side.turn((east, north)) == 0 { 1 << n } else { 0 };
+            for ((said, &east), &north) in said.iter_mut().zip(&self.marks.east).zip(&self.marks.north) {
+                let turn = side.turn((east, north));
+                *said |= (turn == 0) as u8 | ((turn < 0) as u8) << 1;
             }
+        }
+        for (line, said) in self.lines.iter_mut().zip(said) {
+            *line |= ((said & 1) as u64) << n | ((said == 1) as u64) << (24 + n);
         }
     }
 
@@ -206,10 +211,11 @@ impl Sights {
     }
 
     /// Whether some point of the straight between two marks belongs to two blocks. It touches only those given, which it is not
-    /// beside, and those with a side in line with an end.
-    fn shared(&self, i: usize, j: usize, opened: u32) -> bool {
+    /// beside, those that an end belongs to, and those with sides in line with both.
+    fn shared(&self, i: usize, j: usize, opened: u64) -> bool {
         let (a, b) = (self.marks.place(i), self.marks.place(j));
-        let mut rest = (opened | self.lines[i] | self.lines[j]) as u64;
+        let (first, last) = (self.lines[i], self.lines[j]);
+        let mut rest = (opened | (first & last) | ((first | last) >> 24)) & 0xff_ffff;
         while rest != 0 {
             let p = rest.trailing_zeros() as usize;
             rest &= rest - 1;
