@@ -1,4 +1,6 @@
 // Which corners each mark has a clear straight to, as bits.
+#![tactic(auto)]
+
 ghost use Rattle.std.specs.Prelude.{◌≡◌, true, ℕ, ◌+◌, ◌*◌, ◌<◌, ◌≤◌, length};
 ghost use Rattle.bits.specs.inner.Bits.{bit};
 ghost use Rattle.lists.specs.inner.Filled.{filled};

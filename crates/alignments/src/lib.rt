@@ -1,4 +1,6 @@
 // Which blocks have a side in line with a mark, and which the mark belongs to: a straight from there can touch them without going through them.
+#![tactic(auto)]
+
 ghost use Rattle.std.specs.Prelude.{◌≡◌, false, cond, ◌+◌, ◌<◌, ◌≤◌, pos, ◌-ℤ◌, ◌*ℤ◌, length};
 ghost use Rattle.std.specs.Int.Signed.{lt_z};
 ghost use Rattle.geometry.specs.Words.{word};

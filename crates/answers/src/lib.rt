@@ -1,4 +1,6 @@
 // The questions put to each edit, in order: the number of the first that is answered no, over any tables.
+#![tactic(auto)]
+
 ghost use Rattle.std.specs.Prelude.{◌≡◌, ◌&&◌};
 ghost use Rattle.geometry.specs.Words.{point_of};
 ghost use Rattle.tables.specs.Tables.{tables};

@@ -1,4 +1,6 @@
 // The edit that a record of a yard file asks for, called over five tables that the caller lends.
+#![tactic(auto)]
+
 ghost use Rattle.tables.specs.Tables.{tables};
 ghost use Rattle.book.specs.Edits.{Called};
 ghost use Rattle.fields.specs.Asked.{edit_of};

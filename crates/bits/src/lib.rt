@@ -1,4 +1,6 @@
 // Words as sets of small numbers: the lowest, all but it, one more, one less, those of two.
+#![tactic(auto)]
+
 ghost use Rattle.std.specs.Prelude.{◌≡◌, ℕ, ◌+◌, ◌*◌, ◌<◌, min};
 ghost use Rattle.bits.specs.inner.Bits.{bit, Lowest, WithoutLowest, With, Without, Packed};
 

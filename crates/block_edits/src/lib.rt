@@ -1,5 +1,7 @@
 // The three edits of blocks, over five tables that the caller lends.
 // Each answers the number of the first question that is answered no, and then changes no table; 0 means done.
+#![tactic(auto)]
+
 ghost use Rattle.std.specs.Prelude.{◌≡◌, ◌<◌, length, replicate};
 ghost use Rattle.tables.specs.Tables.{tables, stored};
 ghost use Rattle.codes.specs.inner.Codes.{RightRecord, Upright};

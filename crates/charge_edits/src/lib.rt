@@ -1,5 +1,7 @@
 // The edit of the figure, what a straight longer than 0 is charged at least, over five tables that the caller lends.
 // It answers the number of the first question that is answered no, and then changes no table; 0 means done.
+#![tactic(auto)]
+
 ghost use Rattle.std.specs.Prelude.{◌≡◌, ◌≤◌, length};
 ghost use Rattle.tables.specs.Tables.{tables, stored};
 ghost use Rattle.tables.specs.inner.Fit.{Fit};

@@ -1,5 +1,7 @@
 // Which corners each mark has a clear straight to, as bits, from the records alone: of the corners below a mark, block after block takes away
 // those to which it hides the straight.
+#![tactic(auto)]
+
 ghost use Rattle.std.specs.Prelude.{◌≡◌, ◌<◌, length};
 ghost use Rattle.geometry.specs.Words.{point_of};
 ghost use Rattle.geometry.specs.inner.Bounds.{Bounded};

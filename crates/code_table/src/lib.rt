@@ -1,4 +1,6 @@
 // The codes of all marks against all blocks, side after side for all marks at once.
+#![tactic(auto)]
+
 ghost use Rattle.std.specs.Prelude.{◌≡◌, cond, ◌+◌, ◌*◌, ◌%◌, ◌<◌, ◌≤◌, pos, ◌-ℤ◌, ◌*ℤ◌, length};
 ghost use Rattle.std.specs.Int.Signed.{lt_z};
 ghost use Rattle.std.specs.Int.{w32};
@@ -16,7 +18,7 @@ use lists::fill8;
 use tables::place_of;
 
 // The line of a side: how far it goes east and north, and what `across` gives on it.
-#[derive(Drop)]
+#[derive(Clone, Copy)]
 pub struct Line {
     pub east: i32,
     pub north: i32,

@@ -1,4 +1,6 @@
 // Whether a block hides a straight, by the codes of both ends: which sides of the block each is not strictly left of.
+#![tactic(auto)]
+
 ghost use Rattle.std.specs.Prelude.{◌≡◌, true, ◌+◌, ◌<◌, ◌≤◌, pos, length};
 ghost use Rattle.lists.specs.inner.Tells.{Tells};
 ghost use Rattle.geometry.specs.Words.{point_of, block_words};
@@ -12,7 +14,7 @@ use geometry::{Place, corner, turn};
 
 // What a look along a straight finds: the lowest block that hides it, 24 where none does, and as bits those of the blocks
 // before it that the straight may touch, unless it is beside them.
-#[derive(Drop)]
+#[derive(Clone, Copy)]
 pub struct Sight {
     pub hider: usize,
     pub opened: u64,

@@ -1,4 +1,6 @@
 // Turns one version of yard files into the other.
+#![tactic(auto)]
+
 ghost use Rattle.std.specs.Prelude.{◌≡◌, ◌++◌, true, ◌-◌, ◌≤◌, length, take, replicate};
 ghost use Rattle.file_records.specs.Conversions.{converted};
 ghost use Rattle.file_records.specs.inner.Asked.{everyone};
@@ -11,7 +13,7 @@ use lists::fill8;
 use yardfile::body_size;
 
 // A conversion's answer: the number of the question that fails, or 0, and the length of the result.
-#[derive(Drop)]
+#[derive(Clone, Copy)]
 pub struct Conversion {
     pub number: u32,
     pub size: usize,

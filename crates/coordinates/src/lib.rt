@@ -1,4 +1,6 @@
 // The coordinates of a block record: whether some corner has one past a limit.
+#![tactic(auto)]
+
 ghost use Rattle.std.specs.Prelude.{◌<◌, ◌≤◌, get_or};
 ghost use Rattle.coordinates.specs.inner.Scans.{Counted, Past, SomePast, CornerPast};
 ghost use Rattle.lists.specs.inner.Tells.{Tells};

@@ -1,4 +1,6 @@
 // Words of 64 bits that stand for corners: the present ones, those strictly left of a side of a block, and rows of them that are mirrored.
+#![tactic(auto)]
+
 ghost use Rattle.std.specs.Prelude.{◌≡◌, true, ℕ, ◌+◌, ◌*◌, ◌<◌, length};
 ghost use Rattle.geometry.specs.Words.{word};
 ghost use Rattle.bits.specs.inner.Bits.{bit};

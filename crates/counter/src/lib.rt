@@ -1,4 +1,6 @@
 // A price at the counter: one run's route from the blocks and runs alone.
+#![tactic(auto)]
+
 ghost use Rattle.std.specs.Prelude.{◌≡◌};
 ghost use Rattle.tables.specs.Tables.{stored};
 ghost use Rattle.counter.specs.Quote.{quote_answer, RouteQuoted};

@@ -1,4 +1,6 @@
 // The crossings of a duct's lines, and the steps between them: each straight is tested once, and its answer is kept.
+#![tactic(auto)]
+
 ghost use Rattle.std.specs.Prelude.{◌≡◌, ◌+◌, ◌<◌, ◌≤◌, length};
 ghost use Rattle.geometry.specs.Words.{point_of};
 ghost use Rattle.geometry.specs.inner.Bounds.{Bounded};

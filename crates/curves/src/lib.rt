@@ -1,4 +1,6 @@
 // The points of a rounded bend, in floats that are exact.
+#![tactic(auto)]
+
 ghost use Rattle.std.specs.Prelude.{◌≡◌, ◌*◌, ◌≤◌, pos};
 ghost use Rattle.geometry.specs.Words.{point_of};
 ghost use Rattle.curves.specs.Floats.{Exact};
@@ -8,7 +10,7 @@ ghost use Rattle.curves.specs.inner.Numerators.{Moderate, Mixed};
 use geometry::Place;
 
 // A drawn place: east, then north, in centimetres.
-#[derive(Drop)]
+#[derive(Clone, Copy)]
 pub struct Spot {
     pub east: f64,
     pub north: f64,

@@ -1,4 +1,6 @@
 // The routes of a yard, as they are drawn.
+#![tactic(auto)]
+
 ghost use Rattle.std.specs.Prelude.{◌≡◌, true, [], ◌∷◌, length};
 ghost use Rattle.tables.specs.Tables.{tables};
 ghost use Rattle.curves.specs.Curve.{At};

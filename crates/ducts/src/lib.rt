@@ -1,4 +1,6 @@
 // The quote of a duct: the best path of a run along the lines through every corner and its two ends.
+#![tactic(auto)]
+
 ghost use Rattle.std.specs.Prelude.{◌≡◌, cond, [], ◌∷◌, ◌++◌, ℕ, ◌+◌, ◌*◌, ◌-◌, ◌/◌, ◌%◌, ◌<◌, ◌≤◌, ltb, length, take, set};
 ghost use Rattle.lists.specs.inner.Filled.{filled};
 ghost use Rattle.geometry.specs.Words.{word};

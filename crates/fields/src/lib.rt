@@ -1,4 +1,6 @@
 // The edits whose arguments stand in a yard file: the fields at a position, read and handed to the call.
+#![tactic(auto)]
+
 ghost use Rattle.std.specs.Prelude.{◌≡◌, ◌+◌, ◌≤◌, length};
 ghost use Rattle.geometry.specs.Words.{point_of};
 ghost use Rattle.tables.specs.Tables.{tables};

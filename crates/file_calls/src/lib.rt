@@ -1,4 +1,6 @@
 // The reading and the replay of a yard file as calls that answer a number and leave their words in lent lists.
+#![tactic(auto)]
+
 ghost use Rattle.std.specs.Prelude.{◌≡◌, [], ◌∷◌, length};
 ghost use Rattle.tables.specs.Tables.{tables};
 ghost use Rattle.file_calls.specs.Reading.{ReadInto};

@@ -1,4 +1,6 @@
 // The questions of a conversion, each put to all records of a yard file before the next.
+#![tactic(auto)]
+
 ghost use Rattle.std.specs.Prelude.{◌≡◌, true, ◌||◌, ◌<◌, ◌≤◌, eqb, length};
 ghost use Rattle.file_records.specs.Records.{next_at};
 ghost use Rattle.file_records.specs.Conversions.{step_near, near, converted, answer};

@@ -1,4 +1,6 @@
 // The bytes of a yard file as fields and corners.
+#![tactic(auto)]
+
 ghost use Rattle.std.specs.Prelude.{◌≡◌, ◌++◌, ◌+◌, ◌*◌, ◌-◌, ◌<◌, ◌≤◌, length, get_or, take};
 ghost use Rattle.file_words.specs.Words.{byte, field, fields_from, displacement, block_size, stepped, step_words, corner_words, inside};
 

@@ -1,4 +1,6 @@
 // Writes the records of a yard file in a version, one after the other into a lent buffer.
+#![tactic(auto)]
+
 ghost use Rattle.std.specs.Prelude.{◌≡◌, [], ◌∷◌, ◌+◌, ◌*◌, ◌/◌, ◌%◌, ◌≤◌, length, get_or, take, drop};
 ghost use Rattle.file_words.specs.Words.{byte, block_size, corner_words};
 ghost use Rattle.file_records.specs.Records.{next_at, words_at, rec_at, word_bytes, step_byte, step_bytes, corner_bytes, body_bytes, rec_bytes};

@@ -1,4 +1,6 @@
 // Exact geometry on whole centimetres: turns, obstruction and convexity.
+#![tactic(auto)]
+
 ghost use Rattle.std.specs.Prelude.{◌≡◌, ◌⊎◌, ◌+◌, ◌*◌, ◌%◌, ◌<◌, ◌≤◌, min, max, pos, ◌-ℤ◌, ◌*ℤ◌, ◌<ℤ◌};
 ghost use Rattle.std.specs.Int.Signed.{lt_z};
 ghost use Rattle.std.specs.Int.{w64};
@@ -17,14 +19,14 @@ ghost use Rattle.geometry.specs.inner.Search.{Lowest};
 use coordinates::any_past;
 
 // A place: east, then north.
-#[derive(Drop)]
+#[derive(Clone, Copy)]
 pub struct Place {
     pub east: u16,
     pub north: u16,
 }
 
 // The lowest block that hides a segment, or none.
-#[derive(Drop)]
+#[derive(Clone, Copy)]
 pub enum Hider {
     At(usize),
     Nothing,
@@ -32,7 +34,7 @@ pub enum Hider {
 
 // The tightest two of the sides passed, by the turns of both ends: (l, r) of those that the first end is not left of,
 // (p, q) of those that the second end is not left of.
-#[derive(Drop)]
+#[derive(Clone, Copy)]
 pub struct Span {
     pub l: i64,
     pub r: i64,

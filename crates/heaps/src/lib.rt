@@ -1,4 +1,6 @@
 // The marks of a search in one list: the least by the sum of key and bound, and a heap of them.
+#![tactic(auto)]
+
 ghost use Rattle.std.specs.Prelude.{◌≡◌, ◌+◌, ◌*◌, ◌-◌, ◌%◌, ◌<◌, ◌≤◌, min, length};
 ghost use Rattle.heaps.specs.inner.Marks.{Swapped};
 ghost use Rattle.geometry.specs.Words.{word};
@@ -36,7 +38,7 @@ pub fn least(bounds: &[u32], key: &[u32], order: &[u16], lo: usize, hi: usize) -
 }
 
 // The least sum so far, and a place that it does not stand before.
-#[derive(Drop)]
+#[derive(Clone, Copy)]
 struct Low {
     sum: u32,
     from: usize,

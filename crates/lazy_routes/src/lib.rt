@@ -1,4 +1,6 @@
 // A run's route from the records alone: the keys of a lazy search, and a walk forwards by them.
+#![tactic(auto)]
+
 ghost use Rattle.std.specs.Prelude.{◌≡◌, ◌+◌, ◌*◌, ◌<◌, ◌≤◌, length};
 ghost use Rattle.lists.specs.inner.Filled.{filled};
 ghost use Rattle.lists.specs.inner.Tells.{Tells};

@@ -1,6 +1,8 @@
 // A lazy search, for a router that has the records and no pair table: A* backwards from the second end, as `search` is, in which a
 // straight is tested for hiding only where the best chain so far comes to one of its marks. Until then a mark is hoped for, with a
 // key as if its straight to the second end were clear.
+#![tactic(auto)]
+
 ghost use Rattle.std.specs.Prelude.{◌≡◌, ◌+◌, ◌*◌, ◌-◌, ◌<◌, length};
 ghost use Rattle.geometry.specs.Words.{point_of};
 ghost use Rattle.seams.specs.inner.Near.{Near};

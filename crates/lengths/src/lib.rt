@@ -1,4 +1,6 @@
 // Exact lengths on whole centimetres: roots, rounded up, and what is charged by them.
+#![tactic(auto)]
+
 ghost use Rattle.std.specs.Prelude.{◌≡◌, ◌+◌, ◌*◌, ◌<◌, ◌≤◌, ltb, eqb};
 ghost use Rattle.geometry.specs.Words.{point_of};
 ghost use Rattle.lengths.specs.Length.{gap, squared, root_up};

@@ -1,4 +1,6 @@
 // The lines that a duct may use: collected in increasing order, and where a coordinate stands among them.
+#![tactic(auto)]
+
 ghost use Rattle.std.specs.Prelude.{◌≡◌, ◌<◌, ◌≤◌, min, max, length, take};
 ghost use Rattle.geometry.specs.Words.{point_of};
 ghost use Rattle.tables.specs.Tables.{stored, place_of};

@@ -1,4 +1,6 @@
 // The listing of a yard, put byte for byte into a buffer that the caller lends.
+#![tactic(auto)]
+
 ghost use Rattle.std.specs.Prelude.{◌≡◌, ◌++◌, ◌+◌, ◌*◌, ◌≤◌, min, length};
 ghost use Rattle.listing.specs.Lines.{bytes, decimal, labelled, edit_line, edit_lines, stop_line, mark_texts, way_text, run_line, run_lines, Listed};
 ghost use Rattle.listing.specs.inner.Put.{Put};

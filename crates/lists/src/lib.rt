@@ -1,4 +1,6 @@
 // Lists of words, the same for every table: filled with one number, copied, compared.
+#![tactic(auto)]
+
 ghost use Rattle.std.specs.Prelude.{◌≡◌, ◌+◌, ◌≤◌, length};
 ghost use Rattle.lists.specs.Lists.{splice};
 ghost use Rattle.lists.specs.inner.Filled.{filled};

@@ -1,4 +1,6 @@
 // A price before the finger lifts: what every run would cost after a block is moved.
+#![tactic(auto)]
+
 ghost use Rattle.std.specs.Prelude.{◌≡◌, true, map, ◌*◌, ◌<◌, length};
 ghost use Rattle.lists.specs.Lists.{all, splice};
 ghost use Rattle.geometry.specs.Words.{block_words, corners};

@@ -1,4 +1,6 @@
 // Which blocks can share a place with another: compared by their enclosing rectangles, once for all straights of a call.
+#![tactic(auto)]
+
 ghost use Rattle.std.specs.Prelude.{◌≡◌, true, ◌<◌, ◌≤◌, length};
 ghost use Rattle.geometry.specs.Words.{corners};
 ghost use Rattle.geometry.specs.inner.Bounds.{BoundedRecord, Bounded};

@@ -1,4 +1,6 @@
 // Routes as drawn pieces: straights, and rounded bends at the inner marks.
+#![tactic(auto)]
+
 ghost use Rattle.std.specs.Prelude.{◌≡◌, ◌+◌, ◌*◌, ◌<◌, ◌≤◌, length};
 ghost use Rattle.lists.specs.inner.Tells.{Tells};
 ghost use Rattle.geometry.specs.Words.{point_of, word};
@@ -13,7 +15,7 @@ use geometry::Place;
 use tables::place_of;
 
 // A straight carries its two points, a bend its start, corner and finish.
-#[derive(Drop)]
+#[derive(Clone, Copy)]
 pub enum DrawnPiece {
     Refused(u32),
     Nothing,
@@ -22,7 +24,7 @@ pub enum DrawnPiece {
 }
 
 // The answer of `bend_points`: a number, no bend, or nine points in the list.
-#[derive(Drop)]
+#[derive(Clone, Copy)]
 pub enum Shown {
     Refused(u32),
     Nothing,

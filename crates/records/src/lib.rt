@@ -1,4 +1,6 @@
 // Questions 2, 6, 7, 8 and 13, and the record of a new block.
+#![tactic(auto)]
+
 ghost use Rattle.std.specs.Prelude.{◌≡◌, true, ◌+◌, ◌*◌, ◌<◌, length};
 ghost use Rattle.geometry.specs.Words.{point_of, block_words, corners};
 ghost use Rattle.lists.specs.Lists.{all_below, all};

@@ -1,4 +1,6 @@
 // The pair table: its redrawing after an edit, and the check of every byte.
+#![tactic(auto)]
+
 ghost use Rattle.std.specs.Prelude.{◌≡◌, ◌+◌, ◌*◌, ◌<◌, length};
 ghost use Rattle.lists.specs.inner.Tells.{Tells};
 ghost use Rattle.seams.specs.inner.Near.{Near};

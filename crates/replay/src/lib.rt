@@ -1,4 +1,6 @@
 // Replays the edits of a yard file over five tables that the caller lends.
+#![tactic(auto)]
+
 ghost use Rattle.std.specs.Prelude.{◌≡◌, ◌≤◌, length};
 ghost use Rattle.tables.specs.Tables.{tables};
 ghost use Rattle.yardfile.specs.File.{number_of};
@@ -9,7 +11,7 @@ use yardfile::{Reading, read_from};
 
 // How a replay ended: how many edits were called, the number of the stop, 0 at the file's end, and the position there.
 // 1 where fewer than 4,096 words are lent for the answers.
-#[derive(Drop)]
+#[derive(Clone, Copy)]
 pub struct Outcome {
     pub count: usize,
     pub number: u32,

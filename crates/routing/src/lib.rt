@@ -1,4 +1,6 @@
 // The routes of the runs: a walk forwards by the keys of a search, and the records that hold it.
+#![tactic(auto)]
+
 ghost use Rattle.std.specs.Prelude.{◌≡◌, ◌+◌, ◌*◌, ◌<◌, ◌≤◌, length};
 ghost use Rattle.lists.specs.inner.Filled.{filled};
 ghost use Rattle.lists.specs.inner.Tells.{Tells};

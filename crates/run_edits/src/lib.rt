@@ -1,5 +1,7 @@
 // The three edits of runs, over five tables that the caller lends.
 // Each answers the number of the first question that is answered no, and then changes no table; 0 means done.
+#![tactic(auto)]
+
 ghost use Rattle.std.specs.Prelude.{◌≡◌, ◌<◌, length};
 ghost use Rattle.geometry.specs.Words.{point_of};
 ghost use Rattle.tables.specs.Tables.{tables, stored};

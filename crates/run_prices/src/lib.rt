@@ -1,4 +1,6 @@
 // What every run costs, from the blocks and runs alone: the state and the length of its route.
+#![tactic(auto)]
+
 ghost use Rattle.std.specs.Prelude.{◌≡◌, ◌<◌, length};
 ghost use Rattle.lists.specs.inner.Tells.{Tells};
 ghost use Rattle.seams.specs.inner.Near.{Near};
@@ -11,7 +13,7 @@ ghost use Rattle.search.specs.inner.Parts.{Places};
 ghost use Rattle.run_prices.specs.Prices.{Priced, Prices};
 
 // The state and the length in a run's route record.
-#[derive(Drop)]
+#[derive(Clone, Copy)]
 pub struct Price {
     pub state: u32,
     pub charge: u32,

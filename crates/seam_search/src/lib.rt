@@ -1,4 +1,6 @@
 // Whether a place of a segment belongs to two blocks, searched only among blocks that it may touch and that may share one.
+#![tactic(auto)]
+
 ghost use Rattle.std.specs.Prelude.{◌≡◌, true, ◌<◌, length};
 ghost use Rattle.lists.specs.inner.Tells.{Tells};
 ghost use Rattle.geometry.specs.Words.{point_of};

@@ -1,4 +1,6 @@
 // Whether a place of a segment belongs to two blocks, sides and corners included: the closed half of the search of `geometry`.
+#![tactic(auto)]
+
 ghost use Rattle.std.specs.Prelude.{◌⊎◌, ◌<◌, pos, ◌<ℤ◌, ◌≤ℤ◌};
 ghost use Rattle.lists.specs.inner.Tells.{Tells};
 ghost use Rattle.geometry.specs.Words.{point_of, block_words};
@@ -11,7 +13,7 @@ ghost use Rattle.seams.specs.inner.Reach.{Kept, Tightened, Common, Reached, Meet
 use geometry::{Place, Span, side, steeper};
 
 // What is left of a segment after the sides of a block, and whether anything is.
-#[derive(Drop)]
+#[derive(Clone, Copy)]
 pub struct Rest {
     pub open: bool,
     pub kept: Span,

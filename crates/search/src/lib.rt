@@ -1,5 +1,7 @@
 // The steps of one run's search, A* backwards from the second end with a lower bound from the first: the marks in one list,
 // and the relaxing of those that have a clear straight to a settled one. A key is 256 × cost + straights.
+#![tactic(auto)]
+
 ghost use Rattle.std.specs.Prelude.{◌≡◌, ℕ, ◌+◌, ◌*◌, ◌<◌, ◌≤◌, min, max, length};
 ghost use Rattle.geometry.specs.Words.{point_of, word, place_at};
 ghost use Rattle.tables.specs.Tables.{stored};
@@ -10,7 +12,7 @@ ghost use Rattle.search.specs.inner.Parts.{Places, Here, Corners, Ranked, Bends,
 use geometry::Place;
 
 // A settled mark, how many marks are left waiting, the figure, and the place of the first end.
-#[derive(Drop)]
+#[derive(Clone, Copy)]
 pub struct Settled {
     pub mark: usize,
     pub place: Place,

@@ -1,4 +1,6 @@
 // The search of one run: marks are settled one by one, the least sum of key and bound first, until the first end is.
+#![tactic(auto)]
+
 ghost use Rattle.std.specs.Prelude.{◌≡◌, ◌<◌, length};
 ghost use Rattle.tables.specs.Tables.{stored, first_end, second_end};
 ghost use Rattle.tables.specs.inner.Fit.{Fit};

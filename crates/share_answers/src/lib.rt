@@ -1,4 +1,6 @@
 // Questions 18, 3, 4, 19 and 20, and 5, of a run that is edited in a contractor's name: over the run table, the holders, the shares and the ceilings.
+#![tactic(auto)]
+
 ghost use Rattle.std.specs.Prelude.{◌≡◌, ◌+◌, ◌-◌, ◌<◌, ◌≤◌, ltb, leb, length};
 ghost use Rattle.lists.specs.Lists.{all_below};
 ghost use Rattle.geometry.specs.Words.{word};

@@ -1,5 +1,7 @@
 // Runs added, removed and moved in the names of four contractors, each of which keeps the share that it was promised.
 // Each call answers the number of the first question that is answered no, and then changes no table and no holder; 0 means done.
+#![tactic(auto)]
+
 ghost use Rattle.std.specs.Prelude.{◌≡◌, []};
 ghost use Rattle.geometry.specs.Words.{point_of};
 ghost use Rattle.tables.specs.Tables.{tables};

@@ -1,4 +1,6 @@
 // The test of one straight between two marks, for a router that has the records and no pair table.
+#![tactic(auto)]
+
 ghost use Rattle.std.specs.Prelude.{◌≡◌, true, ◌+◌, ◌/◌, ◌%◌, ◌<◌, ◌≤◌, pos, ◌<ℤ◌, length};
 ghost use Rattle.lists.specs.inner.Tells.{Tells};
 ghost use Rattle.geometry.specs.Words.{point_of, word, block_words, corners};

@@ -1,4 +1,6 @@
 // The search for the best path: passes along the lines in four directions, until no key becomes less.
+#![tactic(auto)]
+
 ghost use Rattle.std.specs.Prelude.{◌≡◌, ◌+◌, ◌*◌, ◌-◌, ◌<◌, ◌≤◌, min, length};
 ghost use Rattle.crossings.specs.Grid.{net};
 ghost use Rattle.crossings.specs.inner.Charts.{ruled, Ruled, Charted, axis_by};

@@ -1,4 +1,6 @@
 // The layout of the tables: marks, their places, and where the byte of two marks stands.
+#![tactic(auto)]
+
 ghost use Rattle.std.specs.Prelude.{◌≡◌, ◌+◌, ◌*◌, ◌<◌, length};
 ghost use Rattle.geometry.specs.Words.{point_of, place_at};
 ghost use Rattle.tables.specs.Tables.{stored, figure_of, is_corner, is_end, present, place_of, pair_index, pair_byte};

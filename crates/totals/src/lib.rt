@@ -1,4 +1,6 @@
 // The table of totals: how many pairs name each block, and the summed lengths of the found runs.
+#![tactic(auto)]
+
 ghost use Rattle.std.specs.Prelude.{◌≡◌, length};
 ghost use Rattle.lists.specs.inner.Filled.{filled};
 ghost use Rattle.lists.specs.inner.Tells.{Tells};

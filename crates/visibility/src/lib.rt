@@ -1,4 +1,6 @@
 // The byte of two marks, as the stored records require it.
+#![tactic(auto)]
+
 ghost use Rattle.std.specs.Prelude.{◌<◌};
 ghost use Rattle.geometry.specs.Words.{point_of};
 ghost use Rattle.geometry.specs.inner.Bounds.{Bounded, InRange};

@@ -1,4 +1,6 @@
 // The walk by the labels: the best path between two crossings, its steps kept a byte each.
+#![tactic(auto)]
+
 ghost use Rattle.std.specs.Prelude.{◌≡◌, ◌+◌, ◌*◌, ◌/◌, ◌%◌, ◌<◌, ◌≤◌, length};
 ghost use Rattle.geometry.specs.inner.Bounds.{Bounded};
 ghost use Rattle.lists.specs.inner.Tells.{Tells};
@@ -176,7 +178,7 @@ fn walk(
 }
 
 // What a search found: how many crossings the best path has, 0 where there is none, and its cost.
-#[derive(Drop)]
+#[derive(Clone, Copy)]
 pub struct Outcome {
     pub count: usize,
     pub cost: u32,

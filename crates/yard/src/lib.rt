@@ -1,4 +1,6 @@
 // The empty yard and the check, over five tables that the caller lends; the edits are those of block_edits and run_edits.
+#![tactic(auto)]
+
 ghost use Rattle.tables.specs.Tables.{tables};
 ghost use Rattle.book.specs.Edits.{Started, Checked};
 

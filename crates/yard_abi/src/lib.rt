@@ -1,4 +1,6 @@
 // The calls of the yard for C and Rust. Each has the contract of the call under it; a slice is passed as a pointer and a length in elements.
+#![tactic(auto)]
+
 ghost use Rattle.geometry.specs.Words.{point};
 ghost use Rattle.tables.specs.Tables.{tables, stored};
 ghost use Rattle.book.specs.Book.{add_block, remove_block, move_block, add_run, remove_run, move_run, set_charge};

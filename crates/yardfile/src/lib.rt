@@ -1,11 +1,13 @@
 // The reader of yard files, versions 1 and 2.
+#![tactic(auto)]
+
 ghost use Rattle.std.specs.Prelude.{◌≡◌, ◌+◌, ◌<◌, ◌≤◌, length};
 ghost use Rattle.yardfile.specs.File.{head_right, plain_words, body_size, record_whole, corners_right, item_at, read_at};
 
 use file_words::{block_size, byte_at, corner_words, inside};
 
 // A record of a yard file: its kind, its number, where its fields start, and the position after it.
-#[derive(Drop)]
+#[derive(Clone, Copy)]
 pub struct Item {
     pub kind: u8,
     pub number: u8,
@@ -14,7 +16,7 @@ pub struct Item {
 }
 
 // What reading at a position finds: a record, the end of the file, or the number of the question that fails.
-#[derive(Drop)]
+#[derive(Clone, Copy)]
 pub enum Reading {
     Found(Item),
     End,
@@ -154,7 +156,7 @@ pub fn read_at(file: &[u8], at: usize) -> Reading
 }
 
 // A yard file and a position in it.
-#[derive(Drop)]
+#[derive(Clone, Copy)]
 pub struct Reader<'a> {
     pub file: &'a [u8],
     pub at: usize,

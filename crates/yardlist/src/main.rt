@@ -1,5 +1,7 @@
 // Lists the yard file on standard input: each edit's answer, the stop, and the runs. Output that can't be written is one
 // line on standard error, since a program has no exit status of its own.
+#![tactic(auto)]
+
 ghost use Rattle.yardlist.specs.Printed.{Printed};
 
 use libc::{STDERR_FILENO, STDIN_FILENO, STDOUT_FILENO};
