@@ -1,0 +1,15 @@
+use Prim.Native.Nat.{◌+◌, ◌≤◌}
+use native.Mathlib.Omega.{arith}
+use Rattle.adjacency.proofs.Entering.{row_end, entered_at}
+use Rattle.adjacency.proofs.Skipping.{enter_many}
+use Rattle.adjacency.proofs.enter_sixteen.Goals as goal
+
+pub overflow_add-start : goal.overflow_add-start
+overflow_add-start c = omega (arith, (let h : c.args.start + c.args.j ≤ 28680 = row_end c.args.start c.args.j (omega arith) (omega arith) in h))
+
+pub none_clear-requires : goal.none_clear-requires
+none_clear-requires c = omega (arith, (let h : c.args.start + c.args.j ≤ 28680 = row_end c.args.start c.args.j (omega arith) (omega arith) in h))
+
+pub returns-then-none_clear : goal.returns-then-none_clear
+returns-then-none_clear c =
+    entered_at _ _ _ _ _ (omega arith) (enter_many _ _ _ _ 16 (c.none_clear.ensures c.if-none_clear.true) c.requires.entered)

@@ -1,0 +1,12 @@
+-- The loop keeps: the words before k say which corners are left before any block is passed.
+use Rattle.clear_rows.proofs.Sifting.{changed_none, changed_next, all_said}
+use Rattle.clear_rows.proofs.begin.Goals as goal
+
+pub loop-k-init : goal.loop-k-init
+loop-k-init c = search changed_none
+
+pub loop-k-preserved : goal.loop-k-preserved
+loop-k-preserved c = search changed_next
+
+pub returns : goal.returns
+returns c = search all_said

@@ -1,0 +1,12 @@
+-- The loop keeps: the words before k are sifted.
+use Rattle.clear_rows.proofs.Sifting.{changed_none, changed_next, changed_all}
+use Rattle.clear_rows.proofs.pass_seams.Goals as goal
+
+pub loop-k-init : goal.loop-k-init
+loop-k-init c = search changed_none
+
+pub loop-k-preserved : goal.loop-k-preserved
+loop-k-preserved c = search changed_next
+
+pub returns : goal.returns
+returns c = search changed_all

@@ -1,0 +1,8 @@
+use Rattle.clear_rows.proofs.Sifting.{without_yes, without_no}
+use Rattle.clear_rows.proofs.without_if.Goals as goal
+
+pub returns-then-t : goal.returns-then-t
+returns-then-t c = search without_yes
+
+pub returns : goal.returns
+returns c = search without_no

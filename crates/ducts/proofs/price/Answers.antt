@@ -1,0 +1,18 @@
+use Rattle.ducts.proofs.Measures.{ruled_is, start_on, end_on, duct_is}
+use Rattle.ducts.proofs.price.Goals as goal
+
+pub quote_between-requires : goal.quote_between-requires
+quote_between-requires c =
+    let h = c.requires.yard.2 in
+    record { lines = (c.requires.yard.0.blocks, ruled_is _ _ _ _ _ _ c.lines_of-nx.ensures c.lines_of-ny.ensures c.requires.yard.0 c.requires.yard.1 h); ends = (
+          start_on _ _ _ _ _ _ c.lines_of-nx.ensures c.lines_of-ny.ensures _ _ c.crossing_at-start.ensures h c.place_of.ensures,
+          end_on _ _ _ _ _ _ c.lines_of-nx.ensures c.lines_of-ny.ensures _ _ c.crossing_at-end.ensures h c.place_of-2.ensures,
+        ); lists = c.requires.lists }
+
+pub returns : goal.returns
+returns c =
+    duct_is _ _ _ _ _ _ c.lines_of-nx.ensures
+    c.lines_of-ny.ensures _ _ _ _ _ _
+    c.place_of.ensures c.crossing_at-start.ensures
+    c.place_of-2.ensures c.crossing_at-end.ensures
+    c.quote_between.ensures

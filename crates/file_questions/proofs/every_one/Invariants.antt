@@ -1,0 +1,10 @@
+use Rattle.file_questions.proofs.Asking.{Walked}
+use Prim.Native.Nat.{◌-◌}
+use lib.ListN.{length}
+use Rattle.file_questions.proofs.every_one.Given as goal
+
+abbrev pub invariant-loop-at : goal.invariant-loop-at
+invariant-loop-at l = Walked l.file l.question l.at
+
+abbrev pub decreases-loop-at : goal.decreases-loop-at
+decreases-loop-at l = length l.file - l.at

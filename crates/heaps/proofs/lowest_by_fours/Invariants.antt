@@ -1,0 +1,11 @@
+use mathlib.Core.Path.{◌≡◌}
+use Prim.Native.Nat.{◌-◌, ◌%◌, ◌≤◌}
+use Rattle.geometry.specs.Words.{word}
+use Rattle.heaps.specs.inner.Sums.{LowTo}
+use Rattle.heaps.proofs.lowest_by_fours.Given as goal
+
+abbrev pub invariant-loop-j : goal.invariant-loop-j
+invariant-loop-j l = (l.lo ≤ l.j) × (l.j ≤ l.stop) × ((l.stop - l.j) % 4 ≡ 0) × LowTo (word l.sums) l.lo l.hi l.sum l.from l.j
+
+abbrev pub decreases-loop-j : goal.decreases-loop-j
+decreases-loop-j l = l.stop - l.j

@@ -1,0 +1,24 @@
+-- The loop keeps: the first n of the list are the corners below i.
+use mathlib.Core.Path.{sym, ◌∙◌}
+use mathlib.Core.Logic.{⊎_elim}
+use Prim.Native.Nat.{◌<◌}
+use native.Mathlib.Omega.{arith}
+use Rattle.lazy_routes.proofs.Corners.{listed_none, listed_more, listed_passed, listed_all}
+use Rattle.lazy_routes.proofs.list_corners.Goals as goal
+
+pub loop-i-init : goal.loop-i-init
+loop-i-init c = (omega arith, listed_none _ _ c.requires.1)
+
+pub loop-i-preserved : goal.loop-i-preserved
+loop-i-preserved c =
+    let b = c.loop-i.invariant.1 in
+    let l : c.loop-i.i < 192 = omega arith in (
+      omega arith,
+      ⊎_elim
+          (λ w. rw (w.1, w.2) (listed_more _ _ _ _ b l (sym c.is_corner.ensures ∙ w.0.taken)))
+          (λ w. rw (w.1, w.2) (listed_passed _ _ _ _ b (sym c.is_corner.ensures ∙ w.0.left)))
+          c.if-is_corner.branch,
+    )
+
+pub returns : goal.returns
+returns c = listed_all _ _ _ _ c.loop-i.invariant.1 (omega (arith, c.loop-i.invariant.0))

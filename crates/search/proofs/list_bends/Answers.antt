@@ -1,0 +1,5 @@
+use Rattle.search.proofs.Steps.{corners_ranked}
+use Rattle.search.proofs.list_bends.Goals as goal
+
+pub returns : goal.returns
+returns c = search corners_ranked

@@ -1,0 +1,10 @@
+use Rattle.search.specs.inner.Parts.{via, ahead}
+use Rattle.search.proofs.Words.{Passing}
+use Rattle.search.proofs.relax_word.Given as goal
+
+abbrev pub invariant-loop-rest : goal.invariant-loop-rest
+invariant-loop-rest l =
+    Passing (ahead l.places l.by) (via l.places l.by) l.w l.base l.initial.waiting l.initial.spot l.initial.key l.waiting l.spot l.key l.sums l.low l.by.left l.rest
+
+abbrev pub decreases-loop-rest : goal.decreases-loop-rest
+decreases-loop-rest l = l.rest
