@@ -21,7 +21,7 @@ fn put_text(out: &mut [u8], at: usize, text: &[u8]) -> usize
     ensures { Put (length text.now) out.old at text.now out.new result }
 {
     let end = at + text.len();
-    bytes::copy(text, &mut out[at..end]);
+    out[at..end].copy_from_slice(text);
     end
 }
 

@@ -2,10 +2,11 @@
 // line on standard error, since a program has no exit status of its own.
 #![tactic(auto)]
 
+ghost use Rattle.std.specs.Prelude.{◌≤◌, length};
 ghost use Rattle.yardlist.specs.Printed.{Printed};
 
-use libc::{STDERR_FILENO, STDIN_FILENO, STDOUT_FILENO};
 use listing::ROOM;
+use std::io::{self, Read, Write};
 
 // Puts the listing of a yard file at the start of the buffer: answers how many bytes it has.
 fn print(file: &[u8], text: &mut [u8; ROOM]) -> usize
@@ -37,13 +38,28 @@ fn print(file: &[u8], text: &mut [u8; ROOM]) -> usize
     )
 }
 
-fn main() {
+// Reads until the buffer is full, the input ends or a read fails: answers how many bytes were read.
+fn read_full<R: Read>(input: &mut R, buffer: &mut [u8]) -> usize
+    ensures { result ≤ length buffer.new }
+{
+    let mut done = 0;
+    for _ in 0..buffer.len() {
+        match input.read(&mut buffer[done..]) {
+            Ok(0) | Err(_) => return done,
+            Ok(n) => done += n,
+        }
+    }
+    done
+}
+
+fn main(rt: HostRuntime) -> io::Result<()> {
     // one byte more than a yard file may have, so that a longer input is seen as such
     let mut input = [0u8; 8193];
-    let n = io::read_full(STDIN_FILENO, &mut input);
+    let n = read_full(&mut rt.reader(), &mut input);
     let mut text = [0u8; ROOM];
     let end = print(&input[..n], &mut text);
-    if !io::write_all(STDOUT_FILENO, &text[..end]) {
-        io::write_all(STDERR_FILENO, b"yardlist: the listing cannot be written\n");
+    if io::writer(&rt).write_all(&text[..end]).is_err() {
+        return rt.eprintln("yardlist: the listing cannot be written");
     }
+    Ok(())
 }

@@ -1,0 +1,13 @@
+use Rattle.lists.specs.Lists.{all_below}
+use mathlib.Core.Bool.{true}
+use mathlib.Core.Path.{◌≡◌}
+use lib.Dec.{leb}
+use Rattle.geometry.specs.Words.{word}
+use Prim.Native.Nat.{◌-◌, ◌≤◌}
+use Rattle.share_answers.proofs.shares_below.Given as goal
+
+abbrev pub invariant-loop-c : goal.invariant-loop-c
+invariant-loop-c l = (l.c ≤ 4) × (all_below l.c (λ k. leb (word l.shares k) (word l.ceilings k)) ≡ true)
+
+abbrev pub decreases-loop-c : goal.decreases-loop-c
+decreases-loop-c l = 4 - l.c
