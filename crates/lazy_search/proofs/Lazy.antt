@@ -159,7 +159,7 @@ module _ {G : Graph} {start end : ℕ} {lead back : ℕ → ℕ} {H T D : ℕ �
 
   -- no mark is left that is reached
   pub none_left : ((v : ℕ) → H v → ⊥) → ((v : ℕ) → T v → unreached ≤ word key v + 256 * lead v) → Searched G start end key false
-  none_left no_hope no_way_lem = record { way = λ e. absurd (true≢false (sym e)); no_way_lem = λ e. none }
+  none_left no_hope no_way_lem = record { way = λ e. absurd (true≢false (sym e)); no_way = λ e. none }
     where
       not_tried : (v : ℕ) → T v → word key v < unreached → ⊥
       not_tried v t k = omega (arith, no_way_lem v t, bound_small z i.leads v (below v (i.tried_only v t)), reach_small v (word key v) n (i.attained v t k))
@@ -177,7 +177,7 @@ module _ {G : Graph} {start end : ℕ} {lead back : ℕ → ℕ} {H T D : ℕ �
 
   -- the first end is the next to be settled
   pub start_next : 1 ≤ n → T start → word key start < unreached → ((v : ℕ) → H v ⊎ T v → word key start ≤ word key v + 256 * lead v) → Searched G start end key true
-  start_next some tried reached least = record { way = λ e. keys; no_way_lem = λ e. absurd (true≢false e) }
+  start_next some tried reached least = record { way = λ e. keys; no_way = λ e. absurd (true≢false e) }
     where
       settled : (v : ℕ) → Vertex G start v → word key v + 256 * lead v < word key start → D v
       settled v x k =

@@ -96,7 +96,7 @@ module _ (G : Graph) (J : ℕ → Type 0) (F : ℕ → ℕ → Type 0) (start en
       }
 
   pub searched_map : {key : List ℕ} {r : Bool} → Searched G start end key r → Searched H start end key r
-  searched_map t = record { way = λ e. keyed_map (t.way e); no_way_lem = λ e vs c. t.no_way_lem e vs (chain_map H G end B at_end inner_back edge-back at-start c) }
+  searched_map t = record { way = λ e. keyed_map (t.way e); no_way = λ e vs c. t.no_way e vs (chain_map H G end B at_end inner_back edge-back at-start c) }
 
 -- the rows were made of clear straights, and what the ends of run m see of each other is told
 module _ (R : Records) (Clear : ℕ → ℕ → Type 0) (m : ℕ) (l : m < 24) (rows : List ℕ) (facing : Bool) (r : Rows R.blocks Clear rows 720) (turn : (v u : ℕ) → Clear v u → Clear u v)

@@ -130,10 +130,10 @@ module _ {G : Graph} {start end : ℕ} {bound : ℕ → ℕ} {waiting : List ℕ
         above_start u o k = omega (arith, p.least l o.place o.within, ap (sum_at bound key) o.is)
 
     pub answer_none : n ≤ r → Searched G start end key false
-    answer_none l = record { way = λ e. absurd (true≢false (sym e)); no_way_lem = λ e. none_left l }
+    answer_none l = record { way = λ e. absurd (true≢false (sym e)); no_way = λ e. none_left l }
 
     pub answer_found : r < n → word key start ≤ sum_at bound key (word waiting r) → Searched G start end key true
-    answer_found l q = record { way = λ e. start_done l q; no_way_lem = λ e. absurd (true≢false e) }
+    answer_found l q = record { way = λ e. start_done l q; no_way = λ e. absurd (true≢false e) }
 
     -- one more mark is settled
     module _ (l : r < n) (before : sum_at bound key (word waiting r) < word key start) where

@@ -108,7 +108,7 @@ module _ (blocks xs : List ℕ) (nx : ℕ) (ys : List ℕ) (ny : ℕ) (rule : Ru
         record {
           list_size = s;
           trail_size = u;
-          no_way_lem = λ q vs path. denied k h (rw (place_of_crossing xs nx ys ny rule end ec ∙ sym e) at (path_stop path));
+          no_way = λ q vs path. denied k h (rw (place_of_crossing xs nx ys ny rule end ec ∙ sym e) at (path_stop path));
           way = λ n. absurd (n refl);
         }
 
@@ -127,7 +127,7 @@ module _ (blocks xs : List ℕ) (nx : ℕ) (ys : List ℕ) (ny : ℕ) (rule : Ru
       L = label_at (lanes xs ys steps end) nx (key_at top low)
 
       pub not_reached : {trail : List ℕ} {size : ℕ} → unreached ≤ key → size ≡ 8712 → length trail ≡ 4356 → Outcoming G start end trail size 0 0
-      not_reached h s u = record { list_size = s; trail_size = u; no_way_lem = λ q vs path. none vs path; way = λ n. absurd (n refl) }
+      not_reached h s u = record { list_size = s; trail_size = u; no_way = λ q vs path. none vs path; way = λ n. absurd (n refl) }
         where
           none : (vs : List ℕ) → Path G end start vs → ⊥
           none vs path =
@@ -143,6 +143,6 @@ module _ (blocks xs : List ℕ) (nx : ℕ) (ys : List ℕ) (ny : ℕ) (rule : Ru
           record {
             list_size = s;
             trail_size = t.sized;
-            no_way_lem = λ q. absurd (omega (arith, t.some));
+            no_way = λ q. absurd (omega (arith, t.some));
             way = λ m. record { fits = t.fits; best = t.best; price_is = t.price ∙ ap (λ (k : ℕ). k / 65536) (sym ke); within = t.within };
           }

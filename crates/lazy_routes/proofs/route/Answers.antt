@@ -41,4 +41,4 @@ returns-then-settle c =
 pub returns-else-settle : goal.returns-else-settle
 returns-else-settle c =
     let t = searched_as (stored c.args.blocks.now c.args.runs.now) (ends_same c.list_corners-n.ensures c.args.m) c.settle.ensures in
-    no_way_record _ _ _ _ ((let h : c.fill32.new.0 ≡ filled 197 0 = cleared _ c.requires.2 c.fill32.ensures in h)) c.requires.0.fit c.requires.1 c.if-runs-m-eq0.false (t.no_way_lem c.if-settle.false)
+    no_way_record _ _ _ _ ((let h : c.fill32.new.0 ≡ filled 197 0 = cleared _ c.requires.2 c.fill32.ensures in h)) c.requires.0.fit c.requires.1 c.if-runs-m-eq0.false (t.no_way c.if-settle.false)

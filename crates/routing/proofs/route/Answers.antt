@@ -30,4 +30,4 @@ pub returns-then-search_run : goal.returns-then-search_run
 returns-then-search_run c = found_record _ _ _ _ _ _ c.requires.fit.0 c.requires.fit.2 c.if-runs-m-eq0.false c.walk-n.ensures
 
 pub returns-else-search_run : goal.returns-else-search_run
-returns-else-search_run c = no_way_record _ _ _ _ ((let h : c.fill32.new.0 ≡ filled 197 0 = cleared _ c.requires.fit.3 c.fill32.ensures in h)) c.requires.fit.0 c.requires.fit.2 c.if-runs-m-eq0.false (c.search_run.ensures.no_way_lem c.if-search_run.false)
+returns-else-search_run c = no_way_record _ _ _ _ ((let h : c.fill32.new.0 ≡ filled 197 0 = cleared _ c.requires.fit.3 c.fill32.ensures in h)) c.requires.fit.0 c.requires.fit.2 c.if-runs-m-eq0.false (c.search_run.ensures.no_way c.if-search_run.false)

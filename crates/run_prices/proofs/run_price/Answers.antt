@@ -21,4 +21,4 @@ returns-then-settle c =
 pub returns : goal.returns
 returns c =
     let p = (start c).requires in
-    priced_shut _ _ p.0.0 p.0.2 (c).before.if1.false ((searched_places _ _ p.0.2 _ p.1.1 (c).facing.ensures c.settle.ensures).no_way_lem c.if-settle.false)
+    priced_shut _ _ p.0.0 p.0.2 (c).before.if1.false ((searched_places _ _ p.0.2 _ p.1.1 (c).facing.ensures c.settle.ensures).no_way c.if-settle.false)

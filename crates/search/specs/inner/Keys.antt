@@ -73,4 +73,4 @@ pub record Keyed (G : Graph) (start end : ℕ) (key : List ℕ) : Type 0 where
 -- what the search answers
 pub record Searched (G : Graph) (start end : ℕ) (key : List ℕ) (r : Bool) : Type 0 where
   pub way : r ≡ true → Keyed G start end key
-  pub no_way_lem : r ≡ false → NoChain G start end
+  pub no_way : r ≡ false → NoChain G start end

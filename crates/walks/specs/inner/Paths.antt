@@ -24,5 +24,5 @@ pub record Kept (G : Net) (start end : ℕ) (trail : List ℕ) (n price : ℕ) :
 pub record Outcoming (G : Net) (start end : ℕ) (trail : List ℕ) (size n price : ℕ) : Type 0 where
   pub list_size : size ≡ 8712
   pub trail_size : length trail ≡ 4356
-  pub no_way_lem : n ≡ 0 → NoPath G start end
+  pub no_way : n ≡ 0 → NoPath G start end
   pub way : (n ≡ 0 → ⊥) → Kept G start end trail n price

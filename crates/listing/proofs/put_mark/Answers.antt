@@ -1,0 +1,6 @@
+use Rattle.listing.specs.Lines.{labelled}
+use Rattle.listing.proofs.put_mark.Goals as goal
+
+pub returns : goal.returns
+unfolding labelled
+returns c = c.put_labelled.ensures
