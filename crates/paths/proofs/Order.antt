@@ -1,5 +1,5 @@
 -- The fixed rule orders chains totally, so a graph has at most one route.
-use mathlib.Core.Path.{◌≡◌, refl, ap}
+use mathlib.Core.Path.{◌≡◌, refl, ap, subst}
 use mathlib.Core.Logic.{◌⊎◌, inl, inr}
 use mathlib.Core.List.{List, [], ◌∷◌}
 use Prim.Native.Nat.{ℕ, ◌<◌}
@@ -58,14 +58,21 @@ module _ (c : ℕ → ℕ → ℕ) where
           last_resort (inl h) = inl (earlier (omega arith) (omega arith) h)
           last_resort (inr h) = inr (earlier (omega arith) (omega arith) h)
 
+-- behind the same mark
+no_later_tail : {xs ys : List ℕ} → NoLater xs ys → (u : ℕ) (us vs : List ℕ) → xs ≡ u ∷ us → ys ≡ u ∷ vs → NoLater us vs
+no_later_tail same u us vs p q = let e : us ≡ vs = cc in subst (λ (l : List ℕ). NoLater us l) e same
+no_later_tail (less {u = a} {v = b} h) u us vs p q = let e : a ≡ b = cc in absurd (omega arith)
+no_later_tail (then {us = ms} {vs = ns} h) u us vs p q =
+    let e : ms ≡ us = cc in
+    let f : ns ≡ vs = cc in
+    subst (λ (l : List ℕ). NoLater l vs) e (subst (λ (l : List ℕ). NoLater ms l) f h)
+
 pub no_later_antisym : {us vs : List ℕ} → NoLater us vs → NoLater vs us → us ≡ vs
 no_later_antisym same q = refl
 no_later_antisym (less h) same = refl
 no_later_antisym (less h) (less k) = absurd (omega arith)
 no_later_antisym (less h) (then q) = absurd (omega arith)
-no_later_antisym (then p) same = refl
-no_later_antisym (then p) (less k) = absurd (omega arith)
-no_later_antisym (then {u = u} p) (then q) = ap (λ (l : List ℕ). u ∷ l) (no_later_antisym p q)
+no_later_antisym (then {u = u} p) q = ap (λ (l : List ℕ). u ∷ l) (no_later_antisym p (no_later_tail q u _ _ refl refl))
 
 pub no_worse_antisym : (c : ℕ → ℕ → ℕ) (us vs : List ℕ) → NoWorse c us vs → NoWorse c vs us → us ≡ vs
 no_worse_antisym c us vs (cheaper a) (cheaper b) = absurd (omega arith)

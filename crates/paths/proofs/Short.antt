@@ -1,5 +1,5 @@
 -- A route passes no vertex twice, so it has at most two vertices more than there are inner ones.
-use mathlib.Core.Path.{◌≡◌, refl, sym, ap, ◌∙◌}
+use mathlib.Core.Path.{◌≡◌, refl, sym, ap, ◌∙◌, subst}
 use mathlib.Core.Logic.{◌≢◌}
 use mathlib.Core.List.{List, [], ◌∷◌}
 use Prim.Native.Nat.{ℕ, zero, suc, ◌+◌, ◌<◌, ◌≤◌}
@@ -148,7 +148,8 @@ module _ (G : Graph) (end : ℕ) where
   pub suffix : (w : ℕ) → w ≢ end → {v : ℕ} {us : List ℕ} → Chain G end v us → Has w us → Suffix w us
   suffix w d (last {v = v} e) (here q) = record { part = w ∷ end ∷ []; chain = last (rw q at e); no_dearer = rw q (omega arith); no_longer = omega arith; apart_too = λ n a. rw q at a }
   suffix w d (last e) (there (here q)) = absurd (d (sym q))
-  suffix w d (more {us = us} i e c) (here q) = record { part = w ∷ us; chain = more i (rw q at e) c; no_dearer = rw q (omega arith); no_longer = omega arith; apart_too = λ n a. rw q at a }
+  suffix w d (last {v = v} e) (there (there x10)) = elim x10 [ ]
+  suffix w d (more {v = v} {us = us} i e c) (here q) = record { part = w ∷ us; chain = more i (rw q at e) c; no_dearer = subst (λ (x : ℕ). total G.cost (x ∷ us) ≤ total G.cost (v ∷ us)) q (omega arith); no_longer = omega arith; apart_too = λ n a. rw q at a }
   suffix w d (more {v = v} {us = us} i e c) (there h) =
       let s = suffix w d c h in
       record { part = s.part; chain = s.chain; no_dearer = omega (arith, s.no_dearer, total_more v c); no_longer = omega (arith, s.no_longer); apart_too = λ n a. s.apart_too n (apart_tail n v (body us) (rw (body_more v c) at a)) }

@@ -7,6 +7,7 @@ use Rattle.geometry.proofs.Sides.{meets_enters, enters_meets}
 use Rattle.geometry.proofs.Narrowing.{neither}
 use Rattle.geometry.proofs.Searching.{part_is, passed_none, passed_next, passed_shut, passed_all, span_whole, hidden_by_lem, none_more, none_between, none_passed}
 use Rattle.geometry.proofs.lowest_hider.Goals as goal
+use Rattle.geometry.proofs.lowest_hider.Goals.{else-loop-k-test, then-loop-k-test+then-not-either}
 
 pub blocks-2-init : goal.blocks-2-init
 blocks-2-init c = (c.first_overlapping-n.ensures.after, none_passed c.first_overlapping-n.ensures)
@@ -50,9 +51,10 @@ blocks-2-preserved c =
     (
       omega (arith, c.blocks-2.invariant.0, c.first_overlapping-n-in-blocks-2.ensures.after),
       none_between _ _ _ _ (none_more _ _ _ c.blocks-2.invariant.1
-          (⊎_elim (λ w. passed_all _ _ _ _ c.loop-k.invariant w.left)
-          (λ w. passed_shut _ _ _ _ c.loop-k.invariant w.0.taken (sym (read w.1.ok w.1.ensures.0)) (sym (read w.2.ok w.2.ensures.0)) (neither _ _ (denied w.3.ensures w.4.taken)))
-          c.loop-k-test.branch))
+          (elim c.loop-k-test.branch [
+            | else-loop-k-test w ↦ passed_all _ _ _ _ c.loop-k.invariant w.loop-k-test.false
+            | then-loop-k-test+then-not-either w ↦ passed_shut _ _ _ _ c.loop-k.invariant w.loop-k-test.true (sym (read w.side-x.type_inv w.side-x.ensures.value)) (sym (read w.side-y.type_inv w.side-y.ensures.value)) (neither _ _ (denied w.either.ensures w.if-not-either.true-raw))
+          ]))
           (none_passed c.first_overlapping-n-in-blocks-2.ensures),
     )
 
