@@ -5,10 +5,14 @@ use Rattle.adjacency.proofs.Skipping.{enter_many}
 use Rattle.adjacency.proofs.enter_sixteen.Goals as goal
 
 pub overflow_add-start : goal.overflow_add-start
-overflow_add-start c = omega (arith, (let h : c.args.start + c.args.j ≤ 28680 = row_end c.args.start c.args.j (omega arith) (omega arith) in h))
+overflow_add-start c =
+    let h : c.args.start + c.args.j ≤ 28680 = row_end c.args.start c.args.j (omega arith) (omega arith) in
+    omega (arith, h)
 
 pub none_clear-requires : goal.none_clear-requires
-none_clear-requires c = omega (arith, (let h : c.args.start + c.args.j ≤ 28680 = row_end c.args.start c.args.j (omega arith) (omega arith) in h))
+none_clear-requires c =
+    let h : c.args.start + c.args.j ≤ 28680 = row_end c.args.start c.args.j (omega arith) (omega arith) in
+    omega (arith, h)
 
 pub returns-then-none_clear : goal.returns-then-none_clear
 returns-then-none_clear c =

@@ -11,40 +11,60 @@ pub bounds-order-c : goal.bounds-order-c
 bounds-order-c c = omega (arith, c.requires.0.sums.listed, c.requires.1)
 
 pub overflow_cast-u : goal.overflow_cast-u
-overflow_cast-u c = omega (arith, (let h : word c.args.order.now (2 * c.args.i + 1) < 240 = c.requires.0.sums.marks (2 * c.args.i + 1) (omega arith) c.requires.1 in h))
+overflow_cast-u c =
+    let h : word c.args.order.now (2 * c.args.i + 1) < 240 = c.requires.0.sums.marks (2 * c.args.i + 1) (omega arith) c.requires.1 in
+    omega (arith, h)
 
 pub bounds-order-c-2 : goal.bounds-order-c-2
 bounds-order-c-2 c = omega (arith, c.requires.0.sums.listed, c.if-n-c.false)
 
 pub overflow_cast-v : goal.overflow_cast-v
-overflow_cast-v c = omega (arith, (let h : word c.args.order.now (2 * c.args.i + 1 + 1) < 240 = c.requires.0.sums.marks (2 * c.args.i + 1 + 1) (omega arith) c.if-n-c.false in h))
+overflow_cast-v c =
+    let h : word c.args.order.now (2 * c.args.i + 1 + 1) < 240 = c.requires.0.sums.marks (2 * c.args.i + 1 + 1) (omega arith) c.if-n-c.false in
+    omega (arith, h)
 
 pub offset_bounds-key-v : goal.offset_bounds-key-v
-offset_bounds-key-v c = omega (arith, (let h : word c.args.order.now (2 * c.args.i + 1 + 1) < 240 = c.requires.0.sums.marks (2 * c.args.i + 1 + 1) (omega arith) c.if-n-c.false in h))
+offset_bounds-key-v c =
+    let h : word c.args.order.now (2 * c.args.i + 1 + 1) < 240 = c.requires.0.sums.marks (2 * c.args.i + 1 + 1) (omega arith) c.if-n-c.false in
+    omega (arith, h)
 
 pub bounds-key-v : goal.bounds-key-v
-bounds-key-v c = omega (arith, (let h : word c.args.order.now (2 * c.args.i + 1 + 1) < 240 = c.requires.0.sums.marks (2 * c.args.i + 1 + 1) (omega arith) c.if-n-c.false in h), c.requires.0.sums.keyed)
+bounds-key-v c =
+    let h : word c.args.order.now (2 * c.args.i + 1 + 1) < 240 = c.requires.0.sums.marks (2 * c.args.i + 1 + 1) (omega arith) c.if-n-c.false in
+    omega (arith, h, c.requires.0.sums.keyed)
 
 pub offset_bounds-bounds-v : goal.offset_bounds-bounds-v
-offset_bounds-bounds-v c = omega (arith, (let h : word c.args.order.now (2 * c.args.i + 1 + 1) < 240 = c.requires.0.sums.marks (2 * c.args.i + 1 + 1) (omega arith) c.if-n-c.false in h))
+offset_bounds-bounds-v c =
+    let h : word c.args.order.now (2 * c.args.i + 1 + 1) < 240 = c.requires.0.sums.marks (2 * c.args.i + 1 + 1) (omega arith) c.if-n-c.false in
+    omega (arith, h)
 
 pub bounds-bounds-v : goal.bounds-bounds-v
-bounds-bounds-v c = omega (arith, (let h : word c.args.order.now (2 * c.args.i + 1 + 1) < 240 = c.requires.0.sums.marks (2 * c.args.i + 1 + 1) (omega arith) c.if-n-c.false in h), c.requires.0.sums.bounded)
+bounds-bounds-v c =
+    let h : word c.args.order.now (2 * c.args.i + 1 + 1) < 240 = c.requires.0.sums.marks (2 * c.args.i + 1 + 1) (omega arith) c.if-n-c.false in
+    omega (arith, h, c.requires.0.sums.bounded)
 
 pub overflow_add-key : goal.overflow_add-key
 overflow_add-key c = omega (arith, c.requires.0.sums.small (2 * c.args.i + 1 + 1) (omega arith) c.if-n-c.false)
 
 pub offset_bounds-key-u : goal.offset_bounds-key-u
-offset_bounds-key-u c = omega (arith, (let h : word c.args.order.now (2 * c.args.i + 1) < 240 = c.requires.0.sums.marks (2 * c.args.i + 1) (omega arith) c.requires.1 in h))
+offset_bounds-key-u c =
+    let h : word c.args.order.now (2 * c.args.i + 1) < 240 = c.requires.0.sums.marks (2 * c.args.i + 1) (omega arith) c.requires.1 in
+    omega (arith, h)
 
 pub bounds-key-u : goal.bounds-key-u
-bounds-key-u c = omega (arith, (let h : word c.args.order.now (2 * c.args.i + 1) < 240 = c.requires.0.sums.marks (2 * c.args.i + 1) (omega arith) c.requires.1 in h), c.requires.0.sums.keyed)
+bounds-key-u c =
+    let h : word c.args.order.now (2 * c.args.i + 1) < 240 = c.requires.0.sums.marks (2 * c.args.i + 1) (omega arith) c.requires.1 in
+    omega (arith, h, c.requires.0.sums.keyed)
 
 pub offset_bounds-bounds-u : goal.offset_bounds-bounds-u
-offset_bounds-bounds-u c = omega (arith, (let h : word c.args.order.now (2 * c.args.i + 1) < 240 = c.requires.0.sums.marks (2 * c.args.i + 1) (omega arith) c.requires.1 in h))
+offset_bounds-bounds-u c =
+    let h : word c.args.order.now (2 * c.args.i + 1) < 240 = c.requires.0.sums.marks (2 * c.args.i + 1) (omega arith) c.requires.1 in
+    omega (arith, h)
 
 pub bounds-bounds-u : goal.bounds-bounds-u
-bounds-bounds-u c = omega (arith, (let h : word c.args.order.now (2 * c.args.i + 1) < 240 = c.requires.0.sums.marks (2 * c.args.i + 1) (omega arith) c.requires.1 in h), c.requires.0.sums.bounded)
+bounds-bounds-u c =
+    let h : word c.args.order.now (2 * c.args.i + 1) < 240 = c.requires.0.sums.marks (2 * c.args.i + 1) (omega arith) c.requires.1 in
+    omega (arith, h, c.requires.0.sums.bounded)
 
 pub overflow_add-key-2 : goal.overflow_add-key-2
 overflow_add-key-2 c = omega (arith, c.requires.0.sums.small (2 * c.args.i + 1) (omega arith) c.requires.1)

@@ -1,9 +1,9 @@
 -- The loop keeps: `sum` is the least of those before j.
 use mathlib.Core.Path.{◌≡◌}
-use mathlib.Core.Logic.{⊎_elim}
 use native.Mathlib.Omega.{arith}
 use Rattle.heaps.proofs.Sums.{one_kept, one_new}
 use Rattle.heaps.proofs.lowest.Goals as goal
+use Rattle.heaps.proofs.lowest.Goals.{then-one-sum, else-one-sum}
 
 pub loop-j-init : goal.loop-j-init
 loop-j-init c = (c.requires.1, c.requires.2, c.lowest_by_fours-low.ensures)
@@ -17,10 +17,10 @@ loop-j-preserved c =
     let t = c.loop-j-test.true in (
       omega (arith, l.0),
       omega (arith, t),
-      ⊎_elim
-          (λ w. rw (w.1, w.2) (one_new l.2 l.0 t w.0.taken))
-          (λ w. rw (w.1, w.2) (one_kept l.2 w.0.left))
-          c.if-one-sum.branch,
+      elim c.if-one-sum.branch [
+        | then-one-sum w ↦ rw (w.sum-is, w.from-is) (one_new l.2 l.0 t w.if-one-sum.true)
+        | else-one-sum w ↦ rw (w.sum-is, w.from-is) (one_kept l.2 w.if-one-sum.false)
+      ],
     )
 
 pub returns : goal.returns

@@ -25,7 +25,9 @@ pub bounds-order-at : goal.bounds-order-at
 bounds-order-at c = omega (arith, c.loop-at-test.true, ((let h : Heapable c.args.bounds.now c.args.key.now c.loop-at.order c.args.n = heapable_rearranged c.requires.0 c.loop-at.invariant.0 in h)).sums.listed)
 
 pub overflow_cast-u : goal.overflow_cast-u
-overflow_cast-u c = omega (arith, (let h : word c.loop-at.order c.loop-at.at < 240 = ((let h : Heapable c.args.bounds.now c.args.key.now c.loop-at.order c.args.n = heapable_rearranged c.requires.0 c.loop-at.invariant.0 in h)).sums.marks c.loop-at.at (omega arith) (omega (arith, c.loop-at-test.true)) in h))
+overflow_cast-u c =
+    let h : word c.loop-at.order c.loop-at.at < 240 = ((let h : Heapable c.args.bounds.now c.args.key.now c.loop-at.order c.args.n = heapable_rearranged c.requires.0 c.loop-at.invariant.0 in h)).sums.marks c.loop-at.at (omega arith) (omega (arith, c.loop-at-test.true)) in
+    omega (arith, h)
 
 pub offset_bounds-order-to : goal.offset_bounds-order-to
 offset_bounds-order-to c = omega (arith, c.lesser_child-to.ensures.within, c.requires.0.few)
@@ -34,34 +36,52 @@ pub bounds-order-to : goal.bounds-order-to
 bounds-order-to c = omega (arith, c.lesser_child-to.ensures.within, ((let h : Heapable c.args.bounds.now c.args.key.now c.loop-at.order c.args.n = heapable_rearranged c.requires.0 c.loop-at.invariant.0 in h)).sums.listed)
 
 pub overflow_cast-v : goal.overflow_cast-v
-overflow_cast-v c = omega (arith, (let h : word c.loop-at.order c.lesser_child-to.result < 240 = ((let h : Heapable c.args.bounds.now c.args.key.now c.loop-at.order c.args.n = heapable_rearranged c.requires.0 c.loop-at.invariant.0 in h)).sums.marks c.lesser_child-to.result (omega arith) c.lesser_child-to.ensures.within in h))
+overflow_cast-v c =
+    let h : word c.loop-at.order c.lesser_child-to.result < 240 = ((let h : Heapable c.args.bounds.now c.args.key.now c.loop-at.order c.args.n = heapable_rearranged c.requires.0 c.loop-at.invariant.0 in h)).sums.marks c.lesser_child-to.result (omega arith) c.lesser_child-to.ensures.within in
+    omega (arith, h)
 
 pub offset_bounds-key-u : goal.offset_bounds-key-u
-offset_bounds-key-u c = omega (arith, (let h : word c.loop-at.order c.loop-at.at < 240 = ((let h : Heapable c.args.bounds.now c.args.key.now c.loop-at.order c.args.n = heapable_rearranged c.requires.0 c.loop-at.invariant.0 in h)).sums.marks c.loop-at.at (omega arith) (omega (arith, c.loop-at-test.true)) in h))
+offset_bounds-key-u c =
+    let h : word c.loop-at.order c.loop-at.at < 240 = ((let h : Heapable c.args.bounds.now c.args.key.now c.loop-at.order c.args.n = heapable_rearranged c.requires.0 c.loop-at.invariant.0 in h)).sums.marks c.loop-at.at (omega arith) (omega (arith, c.loop-at-test.true)) in
+    omega (arith, h)
 
 pub bounds-key-u : goal.bounds-key-u
-bounds-key-u c = omega (arith, (let h : word c.loop-at.order c.loop-at.at < 240 = ((let h : Heapable c.args.bounds.now c.args.key.now c.loop-at.order c.args.n = heapable_rearranged c.requires.0 c.loop-at.invariant.0 in h)).sums.marks c.loop-at.at (omega arith) (omega (arith, c.loop-at-test.true)) in h), c.requires.0.sums.keyed)
+bounds-key-u c =
+    let h : word c.loop-at.order c.loop-at.at < 240 = ((let h : Heapable c.args.bounds.now c.args.key.now c.loop-at.order c.args.n = heapable_rearranged c.requires.0 c.loop-at.invariant.0 in h)).sums.marks c.loop-at.at (omega arith) (omega (arith, c.loop-at-test.true)) in
+    omega (arith, h, c.requires.0.sums.keyed)
 
 pub offset_bounds-bounds-u : goal.offset_bounds-bounds-u
-offset_bounds-bounds-u c = omega (arith, (let h : word c.loop-at.order c.loop-at.at < 240 = ((let h : Heapable c.args.bounds.now c.args.key.now c.loop-at.order c.args.n = heapable_rearranged c.requires.0 c.loop-at.invariant.0 in h)).sums.marks c.loop-at.at (omega arith) (omega (arith, c.loop-at-test.true)) in h))
+offset_bounds-bounds-u c =
+    let h : word c.loop-at.order c.loop-at.at < 240 = ((let h : Heapable c.args.bounds.now c.args.key.now c.loop-at.order c.args.n = heapable_rearranged c.requires.0 c.loop-at.invariant.0 in h)).sums.marks c.loop-at.at (omega arith) (omega (arith, c.loop-at-test.true)) in
+    omega (arith, h)
 
 pub bounds-bounds-u : goal.bounds-bounds-u
-bounds-bounds-u c = omega (arith, (let h : word c.loop-at.order c.loop-at.at < 240 = ((let h : Heapable c.args.bounds.now c.args.key.now c.loop-at.order c.args.n = heapable_rearranged c.requires.0 c.loop-at.invariant.0 in h)).sums.marks c.loop-at.at (omega arith) (omega (arith, c.loop-at-test.true)) in h), c.requires.0.sums.bounded)
+bounds-bounds-u c =
+    let h : word c.loop-at.order c.loop-at.at < 240 = ((let h : Heapable c.args.bounds.now c.args.key.now c.loop-at.order c.args.n = heapable_rearranged c.requires.0 c.loop-at.invariant.0 in h)).sums.marks c.loop-at.at (omega arith) (omega (arith, c.loop-at-test.true)) in
+    omega (arith, h, c.requires.0.sums.bounded)
 
 pub overflow_add-key : goal.overflow_add-key
 overflow_add-key c = omega (arith, ((let h : Heapable c.args.bounds.now c.args.key.now c.loop-at.order c.args.n = heapable_rearranged c.requires.0 c.loop-at.invariant.0 in h)).sums.small c.loop-at.at (omega arith) (omega (arith, c.loop-at-test.true)))
 
 pub offset_bounds-key-v : goal.offset_bounds-key-v
-offset_bounds-key-v c = omega (arith, (let h : word c.loop-at.order c.lesser_child-to.result < 240 = ((let h : Heapable c.args.bounds.now c.args.key.now c.loop-at.order c.args.n = heapable_rearranged c.requires.0 c.loop-at.invariant.0 in h)).sums.marks c.lesser_child-to.result (omega arith) c.lesser_child-to.ensures.within in h))
+offset_bounds-key-v c =
+    let h : word c.loop-at.order c.lesser_child-to.result < 240 = ((let h : Heapable c.args.bounds.now c.args.key.now c.loop-at.order c.args.n = heapable_rearranged c.requires.0 c.loop-at.invariant.0 in h)).sums.marks c.lesser_child-to.result (omega arith) c.lesser_child-to.ensures.within in
+    omega (arith, h)
 
 pub bounds-key-v : goal.bounds-key-v
-bounds-key-v c = omega (arith, (let h : word c.loop-at.order c.lesser_child-to.result < 240 = ((let h : Heapable c.args.bounds.now c.args.key.now c.loop-at.order c.args.n = heapable_rearranged c.requires.0 c.loop-at.invariant.0 in h)).sums.marks c.lesser_child-to.result (omega arith) c.lesser_child-to.ensures.within in h), c.requires.0.sums.keyed)
+bounds-key-v c =
+    let h : word c.loop-at.order c.lesser_child-to.result < 240 = ((let h : Heapable c.args.bounds.now c.args.key.now c.loop-at.order c.args.n = heapable_rearranged c.requires.0 c.loop-at.invariant.0 in h)).sums.marks c.lesser_child-to.result (omega arith) c.lesser_child-to.ensures.within in
+    omega (arith, h, c.requires.0.sums.keyed)
 
 pub offset_bounds-bounds-v : goal.offset_bounds-bounds-v
-offset_bounds-bounds-v c = omega (arith, (let h : word c.loop-at.order c.lesser_child-to.result < 240 = ((let h : Heapable c.args.bounds.now c.args.key.now c.loop-at.order c.args.n = heapable_rearranged c.requires.0 c.loop-at.invariant.0 in h)).sums.marks c.lesser_child-to.result (omega arith) c.lesser_child-to.ensures.within in h))
+offset_bounds-bounds-v c =
+    let h : word c.loop-at.order c.lesser_child-to.result < 240 = ((let h : Heapable c.args.bounds.now c.args.key.now c.loop-at.order c.args.n = heapable_rearranged c.requires.0 c.loop-at.invariant.0 in h)).sums.marks c.lesser_child-to.result (omega arith) c.lesser_child-to.ensures.within in
+    omega (arith, h)
 
 pub bounds-bounds-v : goal.bounds-bounds-v
-bounds-bounds-v c = omega (arith, (let h : word c.loop-at.order c.lesser_child-to.result < 240 = ((let h : Heapable c.args.bounds.now c.args.key.now c.loop-at.order c.args.n = heapable_rearranged c.requires.0 c.loop-at.invariant.0 in h)).sums.marks c.lesser_child-to.result (omega arith) c.lesser_child-to.ensures.within in h), c.requires.0.sums.bounded)
+bounds-bounds-v c =
+    let h : word c.loop-at.order c.lesser_child-to.result < 240 = ((let h : Heapable c.args.bounds.now c.args.key.now c.loop-at.order c.args.n = heapable_rearranged c.requires.0 c.loop-at.invariant.0 in h)).sums.marks c.lesser_child-to.result (omega arith) c.lesser_child-to.ensures.within in
+    omega (arith, h, c.requires.0.sums.bounded)
 
 pub overflow_add-key-in-loop-at : goal.overflow_add-key-in-loop-at
 overflow_add-key-in-loop-at c = omega (arith, ((let h : Heapable c.args.bounds.now c.args.key.now c.loop-at.order c.args.n = heapable_rearranged c.requires.0 c.loop-at.invariant.0 in h)).sums.small c.lesser_child-to.result (omega arith) c.lesser_child-to.ensures.within)

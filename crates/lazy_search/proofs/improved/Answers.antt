@@ -24,16 +24,24 @@ pub returns-then-not-sees : goal.returns-then-not-sees
 returns-then-not-sees c = record { key = improved_hidden _ _ _ _ _ _ (denied c.sees.ensures.tells c.if-not-sees.true-raw); sized = c.sees.ensures.sized }
 
 pub overflow_cast-result : goal.overflow_cast-result
-overflow_cast-result c = omega (arith, (let h : 256 * c.charge.result + 1 + c.args.ks < c.args.old = omega (arith, c.charge.ensures, below_old c.args.ks c.args.old _ _ c.if-old-ks.false c.dearer.ensures c.if-dearer.false) in h))
+overflow_cast-result c =
+    let h : 256 * c.charge.result + 1 + c.args.ks < c.args.old = omega (arith, c.charge.ensures, below_old c.args.ks c.args.old _ _ c.if-old-ks.false c.dearer.ensures c.if-dearer.false) in
+    omega (arith, h)
 
 pub overflow_mul-result : goal.overflow_mul-result
-overflow_mul-result c = omega (arith, (let h : 256 * c.charge.result + 1 + c.args.ks < c.args.old = omega (arith, c.charge.ensures, below_old c.args.ks c.args.old _ _ c.if-old-ks.false c.dearer.ensures c.if-dearer.false) in h))
+overflow_mul-result c =
+    let h : 256 * c.charge.result + 1 + c.args.ks < c.args.old = omega (arith, c.charge.ensures, below_old c.args.ks c.args.old _ _ c.if-old-ks.false c.dearer.ensures c.if-dearer.false) in
+    omega (arith, h)
 
 pub overflow_add-result : goal.overflow_add-result
-overflow_add-result c = omega (arith, (let h : 256 * c.charge.result + 1 + c.args.ks < c.args.old = omega (arith, c.charge.ensures, below_old c.args.ks c.args.old _ _ c.if-old-ks.false c.dearer.ensures c.if-dearer.false) in h))
+overflow_add-result c =
+    let h : 256 * c.charge.result + 1 + c.args.ks < c.args.old = omega (arith, c.charge.ensures, below_old c.args.ks c.args.old _ _ c.if-old-ks.false c.dearer.ensures c.if-dearer.false) in
+    omega (arith, h)
 
 pub overflow_add-result-2 : goal.overflow_add-result-2
-overflow_add-result-2 c = omega (arith, (let h : 256 * c.charge.result + 1 + c.args.ks < c.args.old = omega (arith, c.charge.ensures, below_old c.args.ks c.args.old _ _ c.if-old-ks.false c.dearer.ensures c.if-dearer.false) in h))
+overflow_add-result-2 c =
+    let h : 256 * c.charge.result + 1 + c.args.ks < c.args.old = omega (arith, c.charge.ensures, below_old c.args.ks c.args.old _ _ c.if-old-ks.false c.dearer.ensures c.if-dearer.false) in
+    omega (arith, h)
 
 pub shape_of-last : goal.shape_of-last
 shape_of-last c = c.sees.ensures.sized ∙ sym c.requires.sound.2

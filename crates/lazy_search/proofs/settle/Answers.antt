@@ -95,10 +95,14 @@ pub returns-then-due-next : goal.returns-then-due-next
 returns-then-due-next c = answer_none ((let h : Turn (stored c.args.blocks.now c.args.runs.now) c.args.order.now c.args.n c.args.m c.prepare.new.1.1.1.1.1.0 c.loop-hoped.order c.loop-hoped.key c.loop-hoped.hoped c.loop-hoped.due = c.loop-hoped.invariant.0 c.args.order.now (rearranged_turn (first_turn c.requires.0.fit c.requires.2 c.requires.3 c.prepare.ensures) c.heapify.ensures.marks) in h)) ((let h : Least c.prepare.new.1.1.1.1.1.0 c.loop-hoped.key c.loop-hoped.order 0 c.loop-hoped.hoped 0 = heap_least ((let h : Turn (stored c.args.blocks.now c.args.runs.now) c.args.order.now c.args.n c.args.m c.prepare.new.1.1.1.1.1.0 c.loop-hoped.order c.loop-hoped.key c.loop-hoped.hoped c.loop-hoped.due = c.loop-hoped.invariant.0 c.args.order.now (rearranged_turn (first_turn c.requires.0.fit c.requires.2 c.requires.3 c.prepare.ensures) c.heapify.ensures.marks) in h)) c.loop-hoped.invariant.1 in h)) c.least-next.ensures c.sooner.ensures c.if-sooner.false c.if-due-next.true
 
 pub offset_bounds-order-next : goal.offset_bounds-order-next
-offset_bounds-order-next c = omega (arith, (let h : c.least-next.result < c.args.n + 2 = omega (arith, c.if-due-next.false, ((let h : Turn (stored c.args.blocks.now c.args.runs.now) c.args.order.now c.args.n c.args.m c.prepare.new.1.1.1.1.1.0 c.loop-hoped.order c.loop-hoped.key c.loop-hoped.hoped c.loop-hoped.due = c.loop-hoped.invariant.0 c.args.order.now (rearranged_turn (first_turn c.requires.0.fit c.requires.2 c.requires.3 c.prepare.ensures) c.heapify.ensures.marks) in h)).zones.rest) in h), ((let h : Turn (stored c.args.blocks.now c.args.runs.now) c.args.order.now c.args.n c.args.m c.prepare.new.1.1.1.1.1.0 c.loop-hoped.order c.loop-hoped.key c.loop-hoped.hoped c.loop-hoped.due = c.loop-hoped.invariant.0 c.args.order.now (rearranged_turn (first_turn c.requires.0.fit c.requires.2 c.requires.3 c.prepare.ensures) c.heapify.ensures.marks) in h)).zones.few)
+offset_bounds-order-next c =
+    let h : c.least-next.result < c.args.n + 2 = omega (arith, c.if-due-next.false, ((let h : Turn (stored c.args.blocks.now c.args.runs.now) c.args.order.now c.args.n c.args.m c.prepare.new.1.1.1.1.1.0 c.loop-hoped.order c.loop-hoped.key c.loop-hoped.hoped c.loop-hoped.due = c.loop-hoped.invariant.0 c.args.order.now (rearranged_turn (first_turn c.requires.0.fit c.requires.2 c.requires.3 c.prepare.ensures) c.heapify.ensures.marks) in h)).zones.rest) in
+    omega (arith, h, ((let h : Turn (stored c.args.blocks.now c.args.runs.now) c.args.order.now c.args.n c.args.m c.prepare.new.1.1.1.1.1.0 c.loop-hoped.order c.loop-hoped.key c.loop-hoped.hoped c.loop-hoped.due = c.loop-hoped.invariant.0 c.args.order.now (rearranged_turn (first_turn c.requires.0.fit c.requires.2 c.requires.3 c.prepare.ensures) c.heapify.ensures.marks) in h)).zones.few)
 
 pub bounds-order-next : goal.bounds-order-next
-bounds-order-next c = omega (arith, (let h : c.least-next.result < length c.loop-hoped.order = omega (arith, c.if-due-next.false, (compare_tried ((let h : Turn (stored c.args.blocks.now c.args.runs.now) c.args.order.now c.args.n c.args.m c.prepare.new.1.1.1.1.1.0 c.loop-hoped.order c.loop-hoped.key c.loop-hoped.hoped c.loop-hoped.due = c.loop-hoped.invariant.0 c.args.order.now (rearranged_turn (first_turn c.requires.0.fit c.requires.2 c.requires.3 c.prepare.ensures) c.heapify.ensures.marks) in h))).listed) in h))
+bounds-order-next c =
+    let h : c.least-next.result < length c.loop-hoped.order = omega (arith, c.if-due-next.false, (compare_tried ((let h : Turn (stored c.args.blocks.now c.args.runs.now) c.args.order.now c.args.n c.args.m c.prepare.new.1.1.1.1.1.0 c.loop-hoped.order c.loop-hoped.key c.loop-hoped.hoped c.loop-hoped.due = c.loop-hoped.invariant.0 c.args.order.now (rearranged_turn (first_turn c.requires.0.fit c.requires.2 c.requires.3 c.prepare.ensures) c.heapify.ensures.marks) in h))).listed) in
+    omega (arith, h)
 
 pub overflow_cast-s : goal.overflow_cast-s
 overflow_cast-s c = omega (arith, ((let h : Turn (stored c.args.blocks.now c.args.runs.now) c.args.order.now c.args.n c.args.m c.prepare.new.1.1.1.1.1.0 c.loop-hoped.order c.loop-hoped.key c.loop-hoped.hoped c.loop-hoped.due = c.loop-hoped.invariant.0 c.args.order.now (rearranged_turn (first_turn c.requires.0.fit c.requires.2 c.requires.3 c.prepare.ensures) c.heapify.ensures.marks) in h)).zones.marks _ ((let h : c.least-next.result < c.args.n + 2 = omega (arith, c.if-due-next.false, ((let h : Turn (stored c.args.blocks.now c.args.runs.now) c.args.order.now c.args.n c.args.m c.prepare.new.1.1.1.1.1.0 c.loop-hoped.order c.loop-hoped.key c.loop-hoped.hoped c.loop-hoped.due = c.loop-hoped.invariant.0 c.args.order.now (rearranged_turn (first_turn c.requires.0.fit c.requires.2 c.requires.3 c.prepare.ensures) c.heapify.ensures.marks) in h)).zones.rest) in h)))

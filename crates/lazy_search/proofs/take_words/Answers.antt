@@ -13,19 +13,29 @@ pub bounds-order-j : goal.bounds-order-j
 bounds-order-j c = omega (arith, c.requires.1.sized, c.requires.1.few, c.loop-j-test.true)
 
 pub overflow_cast-v : goal.overflow_cast-v
-overflow_cast-v c = omega (arith, (let h : word c.args.order.now c.loop-j.j < 240 = c.requires.1.marks c.loop-j.j c.loop-j-test.true in h))
+overflow_cast-v c =
+    let h : word c.args.order.now c.loop-j.j < 240 = c.requires.1.marks c.loop-j.j c.loop-j-test.true in
+    omega (arith, h)
 
 pub offset_bounds-words-v : goal.offset_bounds-words-v
-offset_bounds-words-v c = omega (arith, (let h : word c.args.order.now c.loop-j.j < 240 = c.requires.1.marks c.loop-j.j c.loop-j-test.true in h))
+offset_bounds-words-v c =
+    let h : word c.args.order.now c.loop-j.j < 240 = c.requires.1.marks c.loop-j.j c.loop-j-test.true in
+    omega (arith, h)
 
 pub bounds-words-v : goal.bounds-words-v
-bounds-words-v c = omega (arith, (let h : word c.args.order.now c.loop-j.j < 240 = c.requires.1.marks c.loop-j.j c.loop-j-test.true in h), c.requires.0)
+bounds-words-v c =
+    let h : word c.args.order.now c.loop-j.j < 240 = c.requires.1.marks c.loop-j.j c.loop-j-test.true in
+    omega (arith, h, c.requires.0)
 
 pub offset_bounds-key-v : goal.offset_bounds-key-v
-offset_bounds-key-v c = omega (arith, (let h : word c.args.order.now c.loop-j.j < 240 = c.requires.1.marks c.loop-j.j c.loop-j-test.true in h))
+offset_bounds-key-v c =
+    let h : word c.args.order.now c.loop-j.j < 240 = c.requires.1.marks c.loop-j.j c.loop-j-test.true in
+    omega (arith, h)
 
 pub bounds-key-v : goal.bounds-key-v
-bounds-key-v c = omega (arith, (let h : word c.args.order.now c.loop-j.j < 240 = c.requires.1.marks c.loop-j.j c.loop-j-test.true in h), c.loop-j.invariant.1.sized, c.requires.2)
+bounds-key-v c =
+    let h : word c.args.order.now c.loop-j.j < 240 = c.requires.1.marks c.loop-j.j c.loop-j-test.true in
+    omega (arith, h, c.loop-j.invariant.1.sized, c.requires.2)
 
 pub loop-j-preserved : goal.loop-j-preserved
 loop-j-preserved c = (omega (arith, c.loop-j-test.true), taken_next (omega (arith, (let h : word c.args.order.now c.loop-j.j < 240 = c.requires.1.marks c.loop-j.j c.loop-j-test.true in h), c.requires.2)) c.loop-j.invariant.1)

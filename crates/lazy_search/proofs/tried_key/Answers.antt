@@ -18,16 +18,22 @@ pub bounds-order-i : goal.bounds-order-i
 bounds-order-i c = omega (arith, c.requires.testable.listed, c.loop-i-test.true, c.loop-i.invariant.1)
 
 pub overflow_cast-s : goal.overflow_cast-s
-overflow_cast-s c = omega (arith, (let h : word c.args.order.now (c.loop-i.i - 1) < 240 = c.requires.testable.marks (c.loop-i.i - 1) (omega (arith, c.loop-i-test.true)) (omega (arith, c.loop-i-test.true, c.loop-i.invariant.1)) in h))
+overflow_cast-s c =
+    let h : word c.args.order.now (c.loop-i.i - 1) < 240 = c.requires.testable.marks (c.loop-i.i - 1) (omega (arith, c.loop-i-test.true)) (omega (arith, c.loop-i-test.true, c.loop-i.invariant.1)) in
+    omega (arith, h)
 
 pub place_of-b-requires : goal.place_of-b-requires
 place_of-b-requires c = (c.requires.sound.0.fit.blocks.sized, c.requires.sound.0.fit.runs.sized, (let h : word c.args.order.now (c.loop-i.i - 1) < 240 = c.requires.testable.marks (c.loop-i.i - 1) (omega (arith, c.loop-i-test.true)) (omega (arith, c.loop-i-test.true, c.loop-i.invariant.1)) in h))
 
 pub offset_bounds-key-s : goal.offset_bounds-key-s
-offset_bounds-key-s c = omega (arith, (let h : word c.args.order.now (c.loop-i.i - 1) < 240 = c.requires.testable.marks (c.loop-i.i - 1) (omega (arith, c.loop-i-test.true)) (omega (arith, c.loop-i-test.true, c.loop-i.invariant.1)) in h))
+offset_bounds-key-s c =
+    let h : word c.args.order.now (c.loop-i.i - 1) < 240 = c.requires.testable.marks (c.loop-i.i - 1) (omega (arith, c.loop-i-test.true)) (omega (arith, c.loop-i-test.true, c.loop-i.invariant.1)) in
+    omega (arith, h)
 
 pub bounds-key-s : goal.bounds-key-s
-bounds-key-s c = omega (arith, (let h : word c.args.order.now (c.loop-i.i - 1) < 240 = c.requires.testable.marks (c.loop-i.i - 1) (omega (arith, c.loop-i-test.true)) (omega (arith, c.loop-i-test.true, c.loop-i.invariant.1)) in h), c.requires.testable.keyed)
+bounds-key-s c =
+    let h : word c.args.order.now (c.loop-i.i - 1) < 240 = c.requires.testable.marks (c.loop-i.i - 1) (omega (arith, c.loop-i-test.true)) (omega (arith, c.loop-i-test.true, c.loop-i.invariant.1)) in
+    omega (arith, h, c.requires.testable.keyed)
 
 pub improved-best-requires : goal.improved-best-requires
 improved-best-requires c = record { sound = (c.requires.sound.0, c.requires.sound.1, c.loop-i.invariant.2, c.place_of-a.ensures); relaxable = record {

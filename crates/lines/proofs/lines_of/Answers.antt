@@ -1,8 +1,8 @@
 use Rattle.lines.proofs.Collecting.{collecting_none, collecting_rising, collecting_more, collecting_past, firsted, firsted_rising, collected}
 use native.Mathlib.Omega.{arith}
-use mathlib.Core.Logic.{⊎_elim}
 use borrow.Author.Rules.{rules}
 use Rattle.lines.proofs.lines_of.Goals as goal
+use Rattle.lines.proofs.lines_of.Goals.{then-is_corner, else-is_corner}
 
 pub loop-i-init : goal.loop-i-init
 loop-i-init c = (omega arith, collecting_none _ _ _ (search rules))
@@ -13,10 +13,10 @@ add_mark-n-requires c = record { blocks_len = search rules; n_in_bounds = (omega
 pub loop-i-preserved : goal.loop-i-preserved
 loop-i-preserved c = (
   omega arith,
-  ⊎_elim
-      (λ w. rw (w.5, w.6) (collecting_more _ _ _ _ _ c.loop-i.invariant.1 _ _ _ c.is_corner.ensures w.0.taken w.2.ensures))
-      (λ w. rw (w.1, w.2) (collecting_past _ _ _ _ _ c.loop-i.invariant.1 _ c.is_corner.ensures w.0.left))
-      c.if-is_corner.branch,
+  elim c.if-is_corner.branch [
+    | then-is_corner w ↦ rw (w.list-is, w.n-is) (collecting_more _ _ _ _ _ c.loop-i.invariant.1 _ _ _ c.is_corner.ensures w.if-is_corner.true w.add_mark-n.ensures)
+    | else-is_corner w ↦ rw (w.list-is, w.n-is) (collecting_past _ _ _ _ _ c.loop-i.invariant.1 _ c.is_corner.ensures w.if-is_corner.false)
+  ],
 )
 
 pub add_mark-n-requires-2 : goal.add_mark-n-requires-2

@@ -13,10 +13,14 @@ pub overflow_cast-p : goal.overflow_cast-p
 overflow_cast-p c = omega (arith, c.lowest-p.ensures.within)
 
 pub offset_bounds-masks-p : goal.offset_bounds-masks-p
-offset_bounds-masks-p c = omega (arith, (let h : c.lowest-p.result < 24 = bit_low 24 _ _ c.requires.touched.0 (walked_set c.loop-rest.invariant c.lowest-p.ensures) in h))
+offset_bounds-masks-p c =
+    let h : c.lowest-p.result < 24 = bit_low 24 _ _ c.requires.touched.0 (walked_set c.loop-rest.invariant c.lowest-p.ensures) in
+    omega (arith, h)
 
 pub bounds-masks-p : goal.bounds-masks-p
-bounds-masks-p c = omega (arith, (let h : c.lowest-p.result < 24 = bit_low 24 _ _ c.requires.touched.0 (walked_set c.loop-rest.invariant c.lowest-p.ensures) in h), c.requires.blocks.1.sized)
+bounds-masks-p c =
+    let h : c.lowest-p.result < 24 = bit_low 24 _ _ c.requires.touched.0 (walked_set c.loop-rest.invariant c.lowest-p.ensures) in
+    omega (arith, h, c.requires.blocks.1.sized)
 
 pub shared_after-requires : goal.shared_after-requires
 shared_after-requires c = record { blocks = (c.requires.blocks.0, (let h : c.lowest-p.result < 24 = bit_low 24 _ _ c.requires.touched.0 (walked_set c.loop-rest.invariant c.lowest-p.ensures) in h)); touched = (let h : Later c.lowest-p.result c.without_lowest-rest.result = later_left c.loop-rest.invariant c.lowest-p.ensures c.without_lowest-rest.ensures c.requires.touched.0 in h); ends = c.requires.ends }

@@ -1,6 +1,6 @@
-use mathlib.Core.Logic.{⊎_elim}
 use Rattle.seams.proofs.Joining.{unshared_none, unshared_more, unshared_alone, shared_yes, shared_no}
 use Rattle.seams.proofs.shared.Goals as goal
+use Rattle.seams.proofs.shared.Goals.{then-near-n-ne0+else-shared_from, else-near-n-ne0}
 
 pub loop-n-init : goal.loop-n-init
 loop-n-init c = unshared_none _ _ _
@@ -14,10 +14,10 @@ returns-then-shared_from c = shared_yes _ _ _ c.loop-n-test.true (c.shared_from.
 pub loop-n-preserved : goal.loop-n-preserved
 loop-n-preserved c =
     let f = c.loop-n.invariant in
-    ⊎_elim
-    (λ w. unshared_more _ _ _ f (w.1.ensures.no' w.2.left))
-    (λ w. unshared_alone _ _ _ f c.loop-n-test.true (c.requires.blocks.1.each _ c.loop-n-test.true w.left))
-    c.if-near-n-ne0.branch
+    elim c.if-near-n-ne0.branch [
+      | then-near-n-ne0+else-shared_from w ↦ unshared_more _ _ _ f (w.shared_from.ensures.no' w.if-shared_from.false)
+      | else-near-n-ne0 w ↦ unshared_alone _ _ _ f c.loop-n-test.true (c.requires.blocks.1.each _ c.loop-n-test.true w.if-near-n-ne0.false)
+    ]
 
 pub returns : goal.returns
 returns c = shared_no _ _ _ c.loop-n-test.false c.loop-n.invariant

@@ -11,16 +11,22 @@ pub loop-j-init : goal.loop-j-init
 loop-j-init c = (omega arith, looked_none _ _ _ c.requires.listed.2)
 
 pub overflow_cast-v : goal.overflow_cast-v
-overflow_cast-v c = omega (arith, (let h : word c.args.waiting.now c.loop-j.j < 240 = c.requires.listed.0.marks c.loop-j.j c.loop-j-test.true in h))
+overflow_cast-v c =
+    let h : word c.args.waiting.now c.loop-j.j < 240 = c.requires.listed.0.marks c.loop-j.j c.loop-j-test.true in
+    omega (arith, h)
 
 pub place_of-requires : goal.place_of-requires
 place_of-requires c = (search rules, search rules, (let h : word c.args.waiting.now c.loop-j.j < 240 = c.requires.listed.0.marks c.loop-j.j c.loop-j-test.true in h))
 
 pub offset_bounds-bounds-v : goal.offset_bounds-bounds-v
-offset_bounds-bounds-v c = omega (arith, (let h : word c.args.waiting.now c.loop-j.j < 240 = c.requires.listed.0.marks c.loop-j.j c.loop-j-test.true in h))
+offset_bounds-bounds-v c =
+    let h : word c.args.waiting.now c.loop-j.j < 240 = c.requires.listed.0.marks c.loop-j.j c.loop-j-test.true in
+    omega (arith, h)
 
 pub bounds-bounds-v : goal.bounds-bounds-v
-bounds-bounds-v c = omega (arith, (let h : word c.args.waiting.now c.loop-j.j < 240 = c.requires.listed.0.marks c.loop-j.j c.loop-j-test.true in h), c.loop-j.invariant.1.sized)
+bounds-bounds-v c =
+    let h : word c.args.waiting.now c.loop-j.j < 240 = c.requires.listed.0.marks c.loop-j.j c.loop-j-test.true in
+    omega (arith, h, c.loop-j.invariant.1.sized)
 
 pub loop-j-preserved : goal.loop-j-preserved
 loop-j-preserved c = (omega arith, looked_next _ _ _ _ _ ((let h : word c.args.waiting.now c.loop-j.j < 240 = c.requires.listed.0.marks c.loop-j.j c.loop-j-test.true in h)) c.loop-j.invariant.1 (bound_is _ _ _ _ _ _ c.place_of-to.ensures c.place_of.ensures c.at_least.ensures.value))
