@@ -89,21 +89,27 @@ module _ (G : Net) (end bound : ℕ) (z : Sized G bound) (L : ℕ → ℕ → �
   later : {u w : ℕ} {us ws : List ℕ} → Path G end u us → Path G end w ws → u < w → NoLater us ws
   later p q l = rw ((begins p).1, (begins q).1) (less l)
 
-  -- of the paths with its key, the walk is the first in order
-  pub walk_first : (a : ℕ) → a ≤ 2 → {v : ℕ} {us ws : List ℕ} → Walk G end L a v us → Path G end v ws → key_from G a ws ≡ L a v → NoLater us ws
-  walk_first a l (stop s) (arrive s') q = same
-  walk_first a l (stop s) (onward {u = u} s' p) q = absurd (end_loose a l end u refl (first a l s' p q).tight)
-  walk_first a l (move {u = u} t m w) (arrive s) q = absurd (end_loose a l end u refl t)
-  walk_first a l (move {v = v} {u = u} {us = us} t m w) (onward {u = x} {us = ws} s p) q =
-      let f = first a l s p q in
+  -- of the paths with its key from the same crossing, the walk is the first in order
+  first_from : (a : ℕ) → a ≤ 2 → {v t : ℕ} {us ws : List ℕ} → v ≡ t → Walk G end L a v us → Path G end t ws → key_from G a ws ≡ L a t → NoLater us ws
+  first_from a l e (stop s) (arrive s') q = same
+  first_from a l e (stop s) (onward {v = t} {u = x} s' p) q = absurd (end_loose a l t x (sym e) (first a l s' p q).tight)
+  first_from a l e (move {v = v} {u = u} t m w) (arrive s) q = absurd (end_loose a l v u e t)
+  first_from a l e (move {v = v} {u = u} {us = us} t m w) (onward {v = y} {u = x} {us = ws} s p) q =
+      let f : First a v x ws = subst (λ (n : ℕ). First a n x ws) (sym e) (first a l s p q) in
       let h = m x f.tight in
-      elim (dec_lt u x) [
+      subst
+      (λ (n : ℕ). NoLater (v ∷ us) (n ∷ ws))
+      e
+      (elim (dec_lt u x) [
         | yes k ↦ then (later (walk_path w) p k)
         | no k ↦
-            let e : x ≡ u = omega arith in
-            then (walk_first (G.axis v u) (flat v u) w (subst (λ (y : ℕ). Path G end y ws) e p)
-            (subst (λ (y : ℕ). key_from G (G.axis v y) ws ≡ L (G.axis v y) y) e f.rest))
-      ]
+            let i : x ≡ u = omega arith in
+            then (first_from (G.axis v u) (flat v u) (sym i) w p
+            (subst (λ (n : ℕ). key_from G (G.axis v n) ws ≡ L (G.axis v n) x) i f.rest))
+      ])
+
+  pub walk_first : (a : ℕ) → a ≤ 2 → {v : ℕ} {us ws : List ℕ} → Walk G end L a v us → Path G end v ws → key_from G a ws ≡ L a v → NoLater us ws
+  walk_first a l w p q = first_from a l refl w p q
 
   module _ (end_Below : end < bound) where
     cut_least : (a : ℕ) {v : ℕ} {us : List ℕ} → (c : Cut G end bound z end_Below v us) → key_from G a us ≤ key_from G a c.list → c.list ≡ us
