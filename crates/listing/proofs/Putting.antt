@@ -1,11 +1,11 @@
 -- Bytes put into a buffer one after the other, up to the whole listing.
 use mathlib.Core.Path.{◌≡◌, refl, sym, ap, ap₂, ◌∙◌, subst}
-use mathlib.Core.List.{List, [], ◌++◌, append_assoc, append-nil}
+use mathlib.Core.List.{List, [], ◌++◌, append_assoc}
 use Prim.Native.Nat.{ℕ, ◌+◌, ◌*◌, ◌-◌, ◌≤◌}
 use native.Mathlib.Numerals.{add-one}
 use native.Mathlib.Omega.{arith}
-use lib.ListN.{length, take, drop, length-append, length-take, take-append-drop, drop_of_length-le}
-use lib.Seq.{take-length, length-take-le, take_at, drop_at, drop-drop}
+use lib.ListN.{length, take, drop, length-append, take-append-drop}
+use lib.Seq.{length-take-le, take_at, drop_at, drop-drop}
 use borrow.Rule.Slice.PartMut.{put_mid}
 use Rattle.lists.specs.Lists.{splice}
 use Rattle.lists.proofs.Copies.{put_back}
@@ -76,8 +76,8 @@ pub put_joined : (most : ℕ) (f : ℕ → List ℕ) {old : List ℕ} {at : ℕ}
 unfolding joined
 put_joined most f l = put_loose (omega arith) (put_none l)
 
--- what `bytes::copy` leaves in the part of the buffer that a text is copied to
-pub put_copied : (old text part : List ℕ) (at : ℕ) → at + length text ≤ length old → part ≡ take (length text) text ++ drop (length text) (take (at + length text - at) (drop at old))
+-- what `copy_from_slice` leaves in the part of the buffer that a text is copied to
+pub put_copied : (old text part : List ℕ) (at : ℕ) → at + length text ≤ length old → part ≡ text
     → Put (length text) old at text (put_mid at (at + length text - at) old part) (at + length text)
 put_copied old text part at l e =
     record {
@@ -88,11 +88,8 @@ put_copied old text part at l e =
       is = here;
     }
   where
-    none : drop (length text) (take (at + length text - at) (drop at old)) ≡ []
-    none = drop_of_length-le _ {i = length text} (rw (length-take (at + length text - at) (drop at old)) (omega arith))
-
     here : put_mid at (at + length text - at) old part ≡ splice old at text
-    here = put_back old text part at (e ∙ rw (none, append-nil) (take-length text))
+    here = put_back old text part at e
 
 -- the listing, put at the start of the buffer
 pub put_listed : (answers : List ℕ) (count number at : ℕ) (routes old new : List ℕ) (most r : ℕ) → Put most old 0 (listing answers count number at routes) new r → Listed answers count number at routes old new r

@@ -5,7 +5,7 @@ use Rattle.listing.specs.inner.Put.{Put}
 use Rattle.listing.proofs.put_edits.Given as goal
 
 abbrev pub invariant-loop-i : goal.invariant-loop-i
-invariant-loop-i l = (l.i ≤ l.n) × Put (54 * l.i) l.initial.out 0 (joined l.i (λ l.i. edit_line (l.i + 1) (word l.answers l.i))) l.out l.end
+invariant-loop-i l = (l.i ≤ l.n) × Put (54 * l.i) l.initial.out 0 (joined l.i (λ i. edit_line (i + 1) (word l.answers i))) l.out l.end
 
 abbrev pub decreases-loop-i : goal.decreases-loop-i
 decreases-loop-i l = l.n - l.i

@@ -3,9 +3,6 @@ use borrow.Author.Rules.{rules}
 use Rattle.listing.proofs.Putting.{put_joined, put_next, put_all}
 use Rattle.listing.proofs.put_marks.Goals as goal
 
-pub overflow_cast-words : goal.overflow_cast-words
-overflow_cast-words c = omega (arith, c.shared_slice_known-2-1.given 2)
-
 pub loop-k-init : goal.loop-k-init
 loop-k-init c = (search rules, put_joined 21 _ (omega arith))
 

@@ -5,7 +5,7 @@ use Rattle.listing.specs.inner.Put.{Put}
 use Rattle.listing.proofs.put_marks.Given as goal
 
 abbrev pub invariant-loop-k : goal.invariant-loop-k
-invariant-loop-k l = (l.k ≤ l.n) × Put (21 * l.k) l.initial.out l.at (joined l.k (λ l.k. labelled " " (word l.words (3 + l.k)))) l.out l.end
+invariant-loop-k l = (l.k ≤ l.n) × Put (21 * l.k) l.initial.out l.at (joined l.k (λ k. labelled " " (word l.words (3 + k)))) l.out l.end
 
 abbrev pub decreases-loop-k : goal.decreases-loop-k
 decreases-loop-k l = l.n - l.k

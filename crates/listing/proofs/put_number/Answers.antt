@@ -8,8 +8,8 @@ pub put_text-requires : goal.put_text-requires
 put_text-requires c =
     omega (
       arith,
-      few_digits _ _ c.ranges.n.fits c.decimal-k.ensures.1.0,
-      c.decimal-k.ensures.0.1,
+      few_digits _ _ c.ranges.n.fits c.decimal-k.ensures.len,
+      c.decimal-k.ensures.in_bounds.1,
     )
 
 pub returns : goal.returns
@@ -17,9 +17,9 @@ returns c =
     put_loose
     (omega (
       arith,
-      few_digits _ _ c.ranges.n.fits c.decimal-k.ensures.1.0,
-      c.decimal-k.ensures.0.1,
+      few_digits _ _ c.ranges.n.fits c.decimal-k.ensures.len,
+      c.decimal-k.ensures.in_bounds.1,
     ))
     (put_as
-    (c.decimal-k.ensures.1.1 ∙ digits_decimal _ _ c.decimal-k.ensures.1.0)
+    (c.decimal-k.ensures.digits ∙ digits_decimal _ _ c.decimal-k.ensures.len)
     c.put_text.ensures)

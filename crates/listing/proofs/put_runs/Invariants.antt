@@ -5,7 +5,7 @@ use Rattle.listing.specs.inner.Put.{Put}
 use Rattle.listing.proofs.put_runs.Given as goal
 
 abbrev pub invariant-loop-m : goal.invariant-loop-m
-invariant-loop-m l = (l.m ≤ 24) × Put (4133 * l.m) l.initial.out l.at (joined l.m (λ l.m. run_line l.m (route_words l.routes l.m))) l.out l.end
+invariant-loop-m l = (l.m ≤ 24) × Put (4133 * l.m) l.initial.out l.at (joined l.m (λ m. run_line m (route_words l.routes m))) l.out l.end
 
 abbrev pub decreases-loop-m : goal.decreases-loop-m
 decreases-loop-m l = 24 - l.m
