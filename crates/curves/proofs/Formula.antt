@@ -3,7 +3,7 @@ use mathlib.Core.Path.{◌≡◌, sym, ap, ◌∙◌}
 use Prim.Native.Nat.{ℕ, ◌+◌, ◌*◌, ◌-◌, ◌≤◌}
 use native.Mathlib.Omega.{arith}
 use lib.IntN.{pos, ◌+ℤ◌, ◌-ℤ◌, ◌*ℤ◌}
-use Rattle.geometry.proofs.Signed.{◌⊖◌, ⊖-eq, diff}
+use Rattle.geometry.proofs.Signed.{⊖-eq, diff}
 use Rattle.curves.specs.Curve.{cube, bezier, curve}
 use Rattle.curves.proofs.Curves.{cube_small, curve_is}
 

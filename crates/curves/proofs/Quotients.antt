@@ -1,12 +1,12 @@
 -- A whole number below 2^53 divided by 4,096 as floats is exact.
 use mathlib.Core.Path.{◌≡◌, refl, sym, ap, ◌∙◌}
 use mathlib.Core.Bool.{Bool, true, false}
-use Prim.Native.Nat.{ℕ, suc, ◌+◌, ◌*◌, ◌^◌, ◌<◌, ◌≤◌}
+use Prim.Native.Nat.{ℕ, suc, ◌+◌, ◌*◌, ◌^◌, ◌<◌}
 use native.Mathlib.Nat.{le_of_lt, lt_of_lt_of_le, zero-lt-suc, mul-pos, mul_comm, mul_assoc, mul_left_comm, mul_right_comm, eq_of_mul-eq-mul_right}
 use lib.Dec.{T, lit≤, le→leb, lt→ltb}
 use lib.IntN.{ℤ, pos, negsuc, nat_abs}
 use lib.Pow.{pow-add, pow_mono, shl_lt}
-use lib.Ieee.{Float, fin, binary64, unlike, up, down, div, of_bits, of_int, in_float, round}
+use lib.Ieee.{Float, nan, inf, fin, binary64, unlike, up, down, div, of_bits, of_int, in_float, round}
 use lib.Ieee.Exact.{HasValue, round_exact}
 use lib.Ieee.Back.{round_whole}
 use lib.Ieee.Fits.{down_pos, div-fits}
@@ -23,6 +23,8 @@ rescale (fin t m e) s w l a c p h v = (
       ∙ ap (λ (y : ℕ). y * down e) (sym h)
       ∙ mul_right_comm a l (down e)),
 )
+rescale nan s w l a c p h v = elim v [ ]
+rescale (inf _) s w l a c p h v = elim v [ ]
 
 regroup : (n d a b c : ℕ) → c ≡ a * b → n * d * c ≡ n * a * (b * d)
 regroup n d a b c e = rw e (simp (mul_assoc, mul_comm, mul_left_comm))
@@ -44,6 +46,8 @@ same_sign false = refl
 quotient : (s : Bool) (x : Float) (n : ℕ) → n < 2 ^ 53 → HasValue x s n 1 → HasValue (div binary64 x (of_bits binary64 0x40b0000000000000)) s n 4096
 unfolding div of_bits
 quotient s (fin t m e) n h v = rw (same_sign t ∙ v.0) (rounded s n (m * up e * 1) (down e) h (down_pos e) v.1)
+quotient s nan n h v = elim v [ ]
+quotient s (inf _) n h v = elim v [ ]
 
 -- the leaf: a numerator as a float, divided by 4,096
 abbrev pub over : ℤ → Float

@@ -4,7 +4,7 @@ use mathlib.Core.Bool.{Bool, cond}
 use Prim.Native.Nat.{ℕ, ◌+◌, ◌*◌, ◌-◌, ◌/◌, ◌^◌, ◌<◌}
 use native.Mathlib.Nat.{mul-div_cancel, mul_comm, mul_assoc}
 use lib.IntN.{ℤ, nat_abs}
-use lib.Ieee.{Float, fin, binary64, up, down, prec, top, hid, size, to_bits, of_bits}
+use lib.Ieee.{Float, nan, inf, fin, binary64, up, down, prec, top, hid, size, to_bits, of_bits}
 use lib.Ieee.Bits.{of_bits-to_bits}
 use lib.Ieee.Exact.{HasValue}
 use lib.Ieee.Fits.{down_pos}
@@ -29,6 +29,8 @@ scaled m d z p e = ap (λ (x : ℕ). x / d) product ∙ mul-div_cancel (z * 2 ^ 
 bits_of : (x : Float) (s : Bool) (z : ℕ) → HasValue x s z 4096 → to_bits binary64 x ≡ written s (z * 2 ^ 1062)
 unfolding to_bits written
 bits_of (fin t m e) s z v = rw (v.0, scaled (m * up e) (down e) z (down_pos e) v.1)
+bits_of nan s z v = elim v [ ]
+bits_of (inf _) s z v = elim v [ ]
 
 pub exact_unique : (z : ℤ) (x y : Float) → Exact z x → Exact z y → x ≡ y
 exact_unique z x y a b =
