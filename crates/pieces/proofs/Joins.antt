@@ -8,7 +8,7 @@ use Rattle.curves.specs.Curve.{bend_at, whole, At}
 use Rattle.curves.specs.declared.Spot.{Spot}
 use Rattle.pieces.specs.declared.DrawnPiece.{DrawnPiece}
 use Rattle.pieces.specs.Pieces.{Shape, nothing, straight, bend, pieces_from, pieces}
-use Rattle.pieces.specs.Showing.{Shows, shows_straight, shows_bend, Spans, straight_spans, bend_spans, origin}
+use Rattle.pieces.specs.Showing.{Shows, shows_nothing, shows_straight, shows_bend, Spans, straight_spans, bend_spans, origin}
 
 abbrev pub start_of : Shape → Point
 start_of nothing = origin
@@ -85,11 +85,14 @@ pieces_end d (a ∷ ps) k h n = ends (whole a) d (a ∷ ps) k h n
 pub spans_there : {p : Shape} {r : DrawnPiece} {s t : Spot} → Shows p r → Spans r s t → There p
 spans_there (shows_straight x y) straight_spans = tt
 spans_there (shows_bend x y z) bend_spans = tt
+spans_there shows_nothing w = elim w [ ]
 
 pub spans_start : {p : Shape} {r : DrawnPiece} {s t : Spot} → Shows p r → Spans r s t → At (start_of p) s
 spans_start (shows_straight x y) straight_spans = x
 spans_start (shows_bend x y z) bend_spans = x
+spans_start shows_nothing w = elim w [ ]
 
 pub spans_finish : {p : Shape} {r : DrawnPiece} {s t : Spot} → Shows p r → Spans r s t → At (finish_of p) t
 spans_finish (shows_straight x y) straight_spans = y
 spans_finish (shows_bend x y z) bend_spans = z
+spans_finish shows_nothing w = elim w [ ]
