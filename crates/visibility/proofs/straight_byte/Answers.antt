@@ -4,7 +4,7 @@ use Rattle.visibility.proofs.Bytes.{hider_small, straight_hidden, straight_unhid
 use Rattle.visibility.proofs.straight_byte.Goals as goal
 
 pub overflow_cast-result : goal.overflow_cast-result
-overflow_cast-result c = let h : c.n-1.given.0.0 < 24 = search hider_small in omega arith
+overflow_cast-result c = let h : c.in-At.n < 24 = search hider_small in omega arith
 
 pub unhidden_byte-requires : goal.unhidden_byte-requires
 unhidden_byte-requires c = search straight_unhidden
