@@ -9,7 +9,7 @@ pub returns-then-m-eq0 : goal.returns-then-m-eq0
 returns-then-m-eq0 c = search row_absent
 
 pub last_row-requires : goal.last_row-requires
-last_row-requires c = record { record = (c.requires.0, omega arith); marks = (c.requires.1, c.requires.2) }
+last_row-requires c = record { «record» = (c.requires.0, omega arith); marks = (c.requires.1, c.requires.2) }
 
 pub loop-k-init : goal.loop-k-init
 loop-k-init c = (refl, omega arith, search rules)
@@ -17,7 +17,7 @@ loop-k-init c = (refl, omega arith, search rules)
 pub side_row-requires : goal.side_row-requires
 side_row-requires c =
     let i = c.loop-k.invariant in
-    record { record = (c.requires.0, omega (arith, i.0, i.1)); marks = (c.requires.1, search row_next) }
+    record { «record» = (c.requires.0, omega (arith, i.0, i.1)); marks = (c.requires.1, search row_next) }
 
 pub loop-k-preserved : goal.loop-k-preserved
 loop-k-preserved c = (search rules, omega (arith, c.loop-k.invariant.1), search rules)

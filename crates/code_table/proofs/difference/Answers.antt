@@ -12,4 +12,4 @@ sub-requires c =
 pub returns : goal.returns
 returns c =
     rw (read c.sub.type_inv c.sub.ensures, read c.wide.type_inv c.wide.ensures, read c.wide-2.type_inv c.wide-2.ensures)
-    (refl, within_gap 32767 c.args.a c.args.b c.requires.0 c.requires.1)
+    record { value = refl; small = within_gap 32767 c.args.a c.args.b c.requires.0 c.requires.1 }

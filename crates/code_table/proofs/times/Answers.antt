@@ -14,4 +14,4 @@ mul-requires c =
 pub returns : goal.returns
 returns c =
     rw (read c.mul.type_inv c.mul.ensures, to_z-of_z w32 c.args.a c.ranges.a, read c.wide.type_inv c.wide.ensures)
-    (refl, within_mul 1073676289 c.requires.0 (within_pos c.requires.1) (lit≤ tt))
+    record { value = refl; small = within_mul 1073676289 c.requires.0 (within_pos c.requires.1) (lit≤ tt) }

@@ -1,10 +1,10 @@
 -- The loop keeps: the first n of the list are the corners below i.
 use mathlib.Core.Path.{sym, ◌∙◌}
-use mathlib.Core.Logic.{⊎_elim}
 use Prim.Native.Nat.{◌<◌}
 use native.Mathlib.Omega.{arith}
 use Rattle.lazy_routes.proofs.Corners.{listed_none, listed_more, listed_passed, listed_all}
 use Rattle.lazy_routes.proofs.list_corners.Goals as goal
+use Rattle.lazy_routes.proofs.list_corners.Goals.{then-is_corner, else-is_corner}
 
 pub loop-i-init : goal.loop-i-init
 loop-i-init c = (omega arith, listed_none _ _ c.requires.1)
@@ -14,10 +14,10 @@ loop-i-preserved c =
     let b = c.loop-i.invariant.1 in
     let l : c.loop-i.i < 192 = omega arith in (
       omega arith,
-      ⊎_elim
-          (λ w. rw (w.1, w.2) (listed_more _ _ _ _ b l (sym c.is_corner.ensures ∙ w.0.taken)))
-          (λ w. rw (w.1, w.2) (listed_passed _ _ _ _ b (sym c.is_corner.ensures ∙ w.0.left)))
-          c.if-is_corner.branch,
+      elim c.if-is_corner.branch [
+        | then-is_corner w ↦ rw (w.order-is, w.n-is) (listed_more _ _ _ _ b l (sym c.is_corner.ensures ∙ w.if-is_corner.true))
+        | else-is_corner w ↦ rw (w.order-is, w.n-is) (listed_passed _ _ _ _ b (sym c.is_corner.ensures ∙ w.if-is_corner.false))
+      ],
     )
 
 pub returns : goal.returns

@@ -1,10 +1,10 @@
 -- The loop keeps: the first n of the list are the corners below i.
 use mathlib.Core.Path.{◌≡◌, sym, ◌∙◌}
-use mathlib.Core.Logic.{⊎_elim}
 use Prim.Native.Nat.{◌<◌}
 use native.Mathlib.Omega.{arith}
 use Rattle.search.proofs.Steps.{corners_none, corners_listed, corners_passed}
 use Rattle.search.proofs.open_corners.Goals as goal
+use Rattle.search.proofs.open_corners.Goals.{then-is_corner, else-is_corner}
 
 pub loop-i-init : goal.loop-i-init
 loop-i-init c = (omega arith, corners_none _ _ _ c.requires.1 c.requires.2)
@@ -14,10 +14,10 @@ loop-i-preserved c =
     let b = c.loop-i.invariant.1 in
     let l : c.loop-i.i < 192 = omega arith in (
       omega arith,
-      ⊎_elim
-          (λ w. rw (w.1, w.2, w.3) (corners_listed b l (sym c.is_corner.ensures ∙ w.0.taken)))
-          (λ w. rw (w.1, w.2, w.3) (corners_passed b (sym c.is_corner.ensures ∙ w.0.left)))
-          c.if-is_corner.branch,
+      elim c.if-is_corner.branch [
+        | then-is_corner w ↦ rw (w.waiting-is, w.spot-is, w.n-is) (corners_listed b l (sym c.is_corner.ensures ∙ w.if-is_corner.true))
+        | else-is_corner w ↦ rw (w.waiting-is, w.spot-is, w.n-is) (corners_passed b (sym c.is_corner.ensures ∙ w.if-is_corner.false))
+      ],
     )
 
 pub returns : goal.returns
