@@ -23,13 +23,13 @@ pub returns-then-not-near_enough : goal.returns-then-not-near_enough
 returns-then-not-near_enough c = search answer_near
 
 pub every_one-requires-2 : goal.every_one-requires-2
-every_one-requires-2 c = (search file_size, search head_low, λ k. said _ _ c.every_one.ensures c.if-not-every_one.false-raw)
+every_one-requires-2 c = (search file_size, search head_low, λ k. search said)
 
 pub returns-then-not-every_one-2 : goal.returns-then-not-every_one-2
 returns-then-not-every_one-2 c = search answer_inside
 
 pub total_size-requires : goal.total_size-requires
-total_size-requires c = (search file_size, search head_low, said _ _ c.every_one.ensures c.if-not-every_one.false-raw)
+total_size-requires c = (search file_size, search head_low, search said)
 
 pub returns-then-total_size-gt8192 : goal.returns-then-total_size-gt8192
 returns-then-total_size-gt8192 c = search answer_long
