@@ -21,7 +21,7 @@ overflow_cast-v c =
     omega (arith, h)
 
 pub place_of-a-requires : goal.place_of-a-requires
-place_of-a-requires c = (c.requires.sound.0.fit.blocks.sized, c.requires.sound.0.fit.runs.sized, (let h : word c.args.order.now c.loop-j.j < 240 = c.requires.easing.marks c.loop-j.j c.loop-j.invariant.0 c.loop-j-test.true in h))
+place_of-a-requires c = (c.requires.sound.0.fit.blocks.sized, c.requires.sound.0.fit.runs.sized, (c.requires.easing.marks c.loop-j.j c.loop-j.invariant.0 c.loop-j-test.true))
 
 pub offset_bounds-key-v : goal.offset_bounds-key-v
 offset_bounds-key-v c =
@@ -34,7 +34,7 @@ bounds-key-v c =
     omega (arith, h, c.loop-j.invariant.3.sized, c.requires.easing.keyed)
 
 pub improved-requires : goal.improved-requires
-improved-requires c = record { sound = (c.requires.sound.0, c.requires.sound.1, c.loop-j.invariant.2, c.place_of-a.ensures); relaxable = record { below = (let h : word c.args.order.now c.loop-j.j < 240 = c.requires.easing.marks c.loop-j.j c.loop-j.invariant.0 c.loop-j-test.true in h); settled_below = c.requires.easing.below; place = c.place_of-b.ensures; small = c.requires.easing.small; itself = λ q. absurd (c.requires.easing.other (record { place = c.loop-j.j; from = c.loop-j.invariant.0; before = c.loop-j-test.true; is = q })) } }
+improved-requires c = record { sound = (c.requires.sound.0, c.requires.sound.1, c.loop-j.invariant.2, c.place_of-a.ensures); relaxable = record { below = (c.requires.easing.marks c.loop-j.j c.loop-j.invariant.0 c.loop-j-test.true); settled_below = c.requires.easing.below; place = c.place_of-b.ensures; small = c.requires.easing.small; itself = λ q. absurd (c.requires.easing.other (record { place = c.loop-j.j; from = c.loop-j.invariant.0; before = c.loop-j-test.true; is = q })) } }
 
 pub offset_bounds-key-v-in-loop-j : goal.offset_bounds-key-v-in-loop-j
 offset_bounds-key-v-in-loop-j c =
@@ -47,7 +47,7 @@ bounds-key-v-in-loop-j c =
     omega (arith, h, c.loop-j.invariant.3.sized, c.requires.easing.keyed)
 
 pub loop-j-preserved : goal.loop-j-preserved
-loop-j-preserved c = (omega (arith, c.loop-j.invariant.0), omega (arith, c.loop-j-test.true), c.improved.ensures.sized, eased_next c.loop-j.invariant.0 (omega (arith, (let h : word c.args.order.now c.loop-j.j < 240 = c.requires.easing.marks c.loop-j.j c.loop-j.invariant.0 c.loop-j-test.true in h), c.requires.easing.keyed)) c.loop-j.invariant.3 c.improved.ensures.key)
+loop-j-preserved c = (omega (arith, c.loop-j.invariant.0), omega (arith, c.loop-j-test.true), c.improved.ensures.sized, eased_next c.loop-j.invariant.0 (omega (arith, (c.requires.easing.marks c.loop-j.j c.loop-j.invariant.0 c.loop-j-test.true), c.requires.easing.keyed)) c.loop-j.invariant.3 c.improved.ensures.key)
 
 pub shape_of-last : goal.shape_of-last
 shape_of-last c = c.loop-j.invariant.2 ∙ sym c.requires.sound.2

@@ -15,7 +15,7 @@ pub returns-then-old-ks : goal.returns-then-old-ks
 returns-then-old-ks c = record { key = improved_near _ _ _ _ _ _ c.if-old-ks.true; sized = c.requires.sound.2 }
 
 pub returns-then-dearer : goal.returns-then-dearer
-returns-then-dearer c = record { key = improved_dear _ _ _ _ _ _ _ _ c.if-old-ks.false ((let h : cost (stored c.args.blocks.now c.args.runs.now) c.args.v c.args.s ≡ charge c.figure_of-figure.result (root_up c.squared-square.result) = cost_is _ _ _ _ _ _ _ c.requires.sound.3 c.requires.relaxable.place c.figure_of-figure.ensures c.squared-square.ensures.value in h)) c.dearer.ensures c.if-dearer.true; sized = c.requires.sound.2 }
+returns-then-dearer c = record { key = improved_dear _ _ _ _ _ _ _ _ c.if-old-ks.false (cost_is _ _ _ _ _ _ _ c.requires.sound.3 c.requires.relaxable.place c.figure_of-figure.ensures c.squared-square.ensures.value) c.dearer.ensures c.if-dearer.true; sized = c.requires.sound.2 }
 
 pub shape_of-last-then-not-sees : goal.shape_of-last-then-not-sees
 shape_of-last-then-not-sees c = c.sees.ensures.sized ∙ sym c.requires.sound.2
@@ -47,4 +47,4 @@ pub shape_of-last : goal.shape_of-last
 shape_of-last c = c.sees.ensures.sized ∙ sym c.requires.sound.2
 
 pub returns : goal.returns
-returns c = record { key = rw c.charge.ensures (improved_new _ _ _ _ _ _ _ _ c.requires.relaxable.itself c.if-old-ks.false (told c.sees.ensures.tells c.if-not-sees.false-raw) ((let h : cost (stored c.args.blocks.now c.args.runs.now) c.args.v c.args.s ≡ charge c.figure_of-figure.result (root_up c.squared-square.result) = cost_is _ _ _ _ _ _ _ c.requires.sound.3 c.requires.relaxable.place c.figure_of-figure.ensures c.squared-square.ensures.value in h)) c.dearer.ensures c.if-dearer.false); sized = c.sees.ensures.sized }
+returns c = record { key = rw c.charge.ensures (improved_new _ _ _ _ _ _ _ _ c.requires.relaxable.itself c.if-old-ks.false (told c.sees.ensures.tells c.if-not-sees.false-raw) (cost_is _ _ _ _ _ _ _ c.requires.sound.3 c.requires.relaxable.place c.figure_of-figure.ensures c.squared-square.ensures.value) c.dearer.ensures c.if-dearer.false); sized = c.sees.ensures.sized }

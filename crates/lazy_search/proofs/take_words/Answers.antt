@@ -38,7 +38,7 @@ bounds-key-v c =
     omega (arith, h, c.loop-j.invariant.1.sized, c.requires.2)
 
 pub loop-j-preserved : goal.loop-j-preserved
-loop-j-preserved c = (omega (arith, c.loop-j-test.true), taken_next (omega (arith, (let h : word c.args.order.now c.loop-j.j < 240 = c.requires.1.marks c.loop-j.j c.loop-j-test.true in h), c.requires.2)) c.loop-j.invariant.1)
+loop-j-preserved c = (omega (arith, c.loop-j-test.true), taken_next (omega (arith, (c.requires.1.marks c.loop-j.j c.loop-j-test.true), c.requires.2)) c.loop-j.invariant.1)
 
 pub shape_of-key : goal.shape_of-key
 shape_of-key c = c.loop-j.invariant.1.sized

@@ -23,7 +23,7 @@ overflow_cast-s c =
     omega (arith, h)
 
 pub place_of-b-requires : goal.place_of-b-requires
-place_of-b-requires c = (c.requires.sound.0.fit.blocks.sized, c.requires.sound.0.fit.runs.sized, (let h : word c.args.order.now (c.loop-i.i - 1) < 240 = c.requires.testable.marks (c.loop-i.i - 1) (omega (arith, c.loop-i-test.true)) (omega (arith, c.loop-i-test.true, c.loop-i.invariant.1)) in h))
+place_of-b-requires c = (c.requires.sound.0.fit.blocks.sized, c.requires.sound.0.fit.runs.sized, (c.requires.testable.marks (c.loop-i.i - 1) (omega (arith, c.loop-i-test.true)) (omega (arith, c.loop-i-test.true, c.loop-i.invariant.1))))
 
 pub offset_bounds-key-s : goal.offset_bounds-key-s
 offset_bounds-key-s c =
@@ -38,9 +38,9 @@ bounds-key-s c =
 pub improved-best-requires : goal.improved-best-requires
 improved-best-requires c = record { sound = (c.requires.sound.0, c.requires.sound.1, c.loop-i.invariant.2, c.place_of-a.ensures); relaxable = record {
         below = c.requires.testable.below;
-        settled_below = (let h : word c.args.order.now (c.loop-i.i - 1) < 240 = c.requires.testable.marks (c.loop-i.i - 1) (omega (arith, c.loop-i-test.true)) (omega (arith, c.loop-i-test.true, c.loop-i.invariant.1)) in h);
+        settled_below = (c.requires.testable.marks (c.loop-i.i - 1) (omega (arith, c.loop-i-test.true)) (omega (arith, c.loop-i-test.true, c.loop-i.invariant.1)));
         place = c.place_of-b.ensures;
-        small = c.requires.testable.small _ ((let h : Among c.args.order.now c.args.lo c.args.hi (word c.args.order.now (c.loop-i.i - 1)) = among _ _ _ _ (omega (arith, c.loop-i-test.true)) (omega (arith, c.loop-i-test.true, c.loop-i.invariant.1)) in h));
+        small = c.requires.testable.small _ (among _ _ _ _ (omega (arith, c.loop-i-test.true)) (omega (arith, c.loop-i-test.true, c.loop-i.invariant.1)));
         itself = λ q. absurd (c.requires.testable.other (record { place = c.loop-i.i - 1; from = omega (arith, c.loop-i-test.true); before = omega (arith, c.loop-i-test.true, c.loop-i.invariant.1); is = sym q }));
       } }
 

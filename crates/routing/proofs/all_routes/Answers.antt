@@ -23,7 +23,7 @@ pub loop-m-preserved : goal.loop-m-preserved
 loop-m-preserved c =
     let u = c.loop-m.invariant.1 in
     let l : c.loop-m.m < 24 = omega arith in
-    (omega arith, upto_next _ _ _ _ _ l u (c.route.auto.1.1.1.1.1.1.0 ∙ lent_length _ _ u.sized l) c.route.ensures)
+    (omega arith, upto_next _ _ _ _ _ l u (c.route.auto.part ∙ lent_length _ _ u.sized l) c.route.ensures)
 
 pub shape_of-routes : goal.shape_of-routes
 shape_of-routes c = c.loop-m.invariant.1.sized ∙ sym c.requires.2

@@ -9,13 +9,13 @@ use Rattle.routing.proofs.Written.{cleared, absent_record, no_way_record, found_
 use Rattle.routing.proofs.route.Goals as goal
 
 pub returns-then-runs-m-eq0 : goal.returns-then-runs-m-eq0
-returns-then-runs-m-eq0 c = absent_record _ _ _ _ ((let h : c.fill32.new.list ≡ filled 197 0 = cleared _ c.requires.fit.3 c.fill32.ensures in h)) c.if-runs-m-eq0.true
+returns-then-runs-m-eq0 c = absent_record _ _ _ _ (cleared _ c.requires.fit.3 c.fill32.ensures) c.if-runs-m-eq0.true
 
 pub search_run-requires : goal.search_run-requires
 search_run-requires c = record { searchable = (record { fit = c.requires.fit.0; sized = c.requires.fit.1 }, c.requires.rows.1, c.requires.rows.0); m_bound = (c.requires.fit.2, filled_all 240 unreached) }
 
 pub walk-n-requires : goal.walk-n-requires
-walk-n-requires c = record { searchable = record { fit = c.requires.fit.0; sized = c.requires.fit.1 }; m_bound = (c.requires.fit.2, c.search_run.ensures.way c.if-search_run.true, ((let h : c.fill32.new.list ≡ filled 197 0 = cleared _ c.requires.fit.3 c.fill32.ensures in h))) }
+walk-n-requires c = record { searchable = record { fit = c.requires.fit.0; sized = c.requires.fit.1 }; m_bound = (c.requires.fit.2, c.search_run.ensures.way c.if-search_run.true, (cleared _ c.requires.fit.3 c.fill32.ensures)) }
 
 pub bounds-part-1 : goal.bounds-part-1
 bounds-part-1 c = simp length-set (omega arith)
@@ -30,4 +30,4 @@ pub returns-then-search_run : goal.returns-then-search_run
 returns-then-search_run c = found_record _ _ _ _ _ _ c.requires.fit.0 c.requires.fit.2 c.if-runs-m-eq0.false c.walk-n.ensures
 
 pub returns-else-search_run : goal.returns-else-search_run
-returns-else-search_run c = no_way_record _ _ _ _ ((let h : c.fill32.new.list ≡ filled 197 0 = cleared _ c.requires.fit.3 c.fill32.ensures in h)) c.requires.fit.0 c.requires.fit.2 c.if-runs-m-eq0.false (c.search_run.ensures.no_way c.if-search_run.false)
+returns-else-search_run c = no_way_record _ _ _ _ (cleared _ c.requires.fit.3 c.fill32.ensures) c.requires.fit.0 c.requires.fit.2 c.if-runs-m-eq0.false (c.search_run.ensures.no_way c.if-search_run.false)

@@ -24,4 +24,4 @@ returns-then-pair_byte c = loose_hidden _ _ _ _ _ _ (λ x. c.if-pair_byte.true (
 pub returns : goal.returns
 returns c =
     rw c.is_charge.ensures
-    (by_cost _ _ _ _ _ _ _ c.requires.v_bound.2 c.if-ku-kv.false c.if-more-ne1.false (sym c.pair_byte.ensures ∙ c.if-pair_byte.false) ((let h : cost (stored c.args.blocks.now c.args.runs.now) c.args.v c.args.u ≡ charge c.figure_of-figure.result (root_up c.squared-square.result) = cost_is _ _ _ _ _ _ _ c.place_of.ensures c.place_of-2.ensures c.figure_of-figure.ensures c.squared-square.ensures.value in h)))
+    (by_cost _ _ _ _ _ _ _ c.requires.v_bound.2 c.if-ku-kv.false c.if-more-ne1.false (sym c.pair_byte.ensures ∙ c.if-pair_byte.false) (cost_is _ _ _ _ _ _ _ c.place_of.ensures c.place_of-2.ensures c.figure_of-figure.ensures c.squared-square.ensures.value))
