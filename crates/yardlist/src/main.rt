@@ -1,12 +1,12 @@
 // Lists the yard file on standard input: each edit's answer, the stop, and the runs. Output that can't be written is one
-// line on standard error, since a program has no exit status of its own.
+// line on standard error, and none where nobody reads on.
 #![tactic(auto)]
 
 ghost use Rattle.std.specs.Prelude.{◌≤◌, length};
 ghost use Rattle.yardlist.specs.Printed.{Printed};
 
 use listing::ROOM;
-use std::io::{self, Read, Write};
+use std::io::{self, ErrorKind, Read, Write};
 
 // Puts the listing of a yard file at the start of the buffer: answers how many bytes it has.
 fn print(file: &[u8], text: &mut [u8; ROOM]) -> usize
@@ -58,8 +58,10 @@ fn main(rt: HostRuntime) -> io::Result<()> {
     let n = read_full(&mut rt.reader(), &mut input);
     let mut text = [0u8; ROOM];
     let end = print(&input[..n], &mut text);
-    if io::writer(&rt).write_all(&text[..end]).is_err() {
-        return rt.eprintln("yardlist: the listing cannot be written");
+    match io::writer(&rt).write_all(&text[..end]) {
+        // nobody reads on
+        Err(error) if error.kind() == ErrorKind::BrokenPipe => Ok(()),
+        Err(_) => rt.eprintln("yardlist: the listing cannot be written"),
+        Ok(()) => Ok(()),
     }
-    Ok(())
 }
