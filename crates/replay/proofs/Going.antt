@@ -6,8 +6,6 @@ use native.Mathlib.Numerals.{add-one}
 use native.Mathlib.Omega.{arith}
 use lib.ListN.{length, set, take, drop, length-append, length-set}
 use lib.Seq.{take-suc-set, drop-set-lt, drop-drop}
-use types.Run.{OneOf}
-use denote.Enum.Declared.{tag_of}
 use Rattle.tables.specs.Tables.{Tables}
 use Rattle.book.specs.Book.{Edit}
 use Rattle.book.specs.Edits.{Called}
@@ -39,7 +37,7 @@ going_none f T old =
     record { edits = []; rest = λ es n stop r. r; counted = refl; calls = no_calls; kept = refl; sized = refl; room = omega arith }
 
 module _ (f : List ℕ) (T₀ : Tables) (old answers : List ℕ) (count at : ℕ) (T : Tables) (g : Going f T₀ old answers count at T) where
-  pub going_end : (x : Reading) (n stop : ℕ) → OneOf (1 ∷ 2 ∷ []) (tag_of R.the_type x) → x ≡ read_at f at → n ≡ number_of x → stop ≡ stop_at n at
+  pub going_end : (x : Reading) (n stop : ℕ) → ((i : Item) → x ≡ Found i → ⊥) → x ≡ read_at f at → n ≡ number_of x → stop ≡ stop_at n at
       → EditsCalled f T₀ old answers count n stop T
   going_end x n stop h e q s =
       record {

@@ -6,9 +6,7 @@ use Prim.Native.Nat.{ℕ, ◌+◌, ◌*◌, ◌≤◌}
 use native.Mathlib.Omega.{arith}
 use lib.Dec.{leb, eqb}
 use lib.ListN.{length}
-use types.Run.{OneOf, miss}
 use borrow.Author.Tests.{ne_eqb}
-use denote.Enum.Declared.{tag_of}
 use Rattle.yardfile.specs.declared.Item.{Item}
 use Rattle.yardfile.specs.declared.Reading.{Reading}
 use Rattle.yardfile.specs.declared.Reading.TheVariants.{Found, End, Refused}
@@ -71,11 +69,11 @@ taken_whole f at i t =
         let b : byte f at ≡ k = sym t.kind ∙ e in
         rw t.fields (omega (arith, t.fits, body_fields f at n (λ z. other (sym b ∙ z)) (rw b m)))
 
--- the second and the third case of a reading: the list of edits ends
-pub ended : (f : List ℕ) (at : ℕ) (x : Reading) → OneOf (1 ∷ 2 ∷ []) (tag_of R.the_type x) → read_at f at ≡ x
+-- a reading that found no record: the list of edits ends
+pub ended : (f : List ℕ) (at : ℕ) (x : Reading) → ((i : Item) → x ≡ Found i → ⊥) → read_at f at ≡ x
     → Reads f at [] (number_of x) (stop_at (number_of x) at)
 unfolding stop_at
-ended f at (Found i) h e = absurd (miss (1 ∷ 2 ∷ []) 0 tt h)
+ended f at (Found i) h e = absurd (h i refl)
 ended f at End h e = at_end e
 ended f at (Refused n) h e = at_stop e
 

@@ -28,31 +28,31 @@ shape_of-answers-in_default c = c.loop-item.invariant.0.sized
 
 pub returns-in_default : goal.returns-in_default
 returns-in_default c =
-    going_end _ _ _ _ _ _ _ c.loop-item.invariant.0 _ _ _ c.in_default.keys2 c.read_from-reading.ensures c.number_of-number.ensures c.stop_position.ensures
+    going_end _ _ _ _ _ _ _ c.loop-item.invariant.0 _ _ _ c.in_default.not-Found c.read_from-reading.ensures c.number_of-number.ensures c.stop_position.ensures
 
 pub apply-answer-requires : goal.apply-answer-requires
-apply-answer-requires c = taken_whole _ _ _ (taken _ _ _ (sym c.read_from-reading.ensures ∙ c.reading-1.given.1))
+apply-answer-requires c = taken_whole _ _ _ (taken _ _ _ (sym c.read_from-reading.ensures ∙ c.in-Found.is))
 
 pub offset_bounds-answers-count : goal.offset_bounds-answers-count
 offset_bounds-answers-count c =
-    omega (arith, going_room _ _ _ _ _ _ _ c.loop-item.invariant.0 _ (sym c.read_from-reading.ensures ∙ c.reading-1.given.1))
+    omega (arith, going_room _ _ _ _ _ _ _ c.loop-item.invariant.0 _ (sym c.read_from-reading.ensures ∙ c.in-Found.is))
 
 pub bounds-answers-count : goal.bounds-answers-count
 bounds-answers-count c =
-    omega (arith, going_room _ _ _ _ _ _ _ c.loop-item.invariant.0 _ (sym c.read_from-reading.ensures ∙ c.reading-1.given.1))
+    omega (arith, going_room _ _ _ _ _ _ _ c.loop-item.invariant.0 _ (sym c.read_from-reading.ensures ∙ c.in-Found.is))
 
 pub overflow_add-count : goal.overflow_add-count
 overflow_add-count c =
-    omega (arith, going_room _ _ _ _ _ _ _ c.loop-item.invariant.0 _ (sym c.read_from-reading.ensures ∙ c.reading-1.given.1))
+    omega (arith, going_room _ _ _ _ _ _ _ c.loop-item.invariant.0 _ (sym c.read_from-reading.ensures ∙ c.in-Found.is))
 
 pub loop-item-smaller : goal.loop-item-smaller
 loop-item-smaller c =
-    omega (arith, going_on _ _ _ _ _ _ _ c.loop-item.invariant.0 _ (sym c.read_from-reading.ensures ∙ c.reading-1.given.1))
+    omega (arith, going_on _ _ _ _ _ _ _ c.loop-item.invariant.0 _ (sym c.read_from-reading.ensures ∙ c.in-Found.is))
 
 pub loop-item-preserved : goal.loop-item-preserved
 loop-item-preserved c =
     (
-      going_next _ _ _ _ _ _ _ c.loop-item.invariant.0 _ (sym c.read_from-reading.ensures ∙ c.reading-1.given.1) _ _ c.requires c.apply-answer.ensures,
+      going_next _ _ _ _ _ _ _ c.loop-item.invariant.0 _ (sym c.read_from-reading.ensures ∙ c.in-Found.is) _ _ c.requires c.apply-answer.ensures,
       search rules,
       search rules,
       search rules,

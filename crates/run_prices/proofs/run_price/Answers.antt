@@ -4,9 +4,6 @@ use Rattle.search.proofs.Told.{rows_tidy}
 use Rattle.run_prices.proofs.Pricing.{priced_absent, priced_shut, priced_found, searched_places}
 use Rattle.run_prices.proofs.run_price.Goals as goal
 
-abbrev start : tie.After-settle → tie.Start
-start c = (called c).before.before.before.before.before.before.before.before
-
 pub returns-then-runs-m-eq0 : goal.returns-then-runs-m-eq0
 returns-then-runs-m-eq0 c = priced_absent _ _ c.if-runs-m-eq0.true
 
@@ -15,10 +12,10 @@ settle-requires c = record { fit = (c.requires.fit.0, c.requires.places.0, rows_
 
 pub returns-then-settle : goal.returns-then-settle
 returns-then-settle c =
-    let p = (start c).requires in
-    priced_found _ _ p.0.0 p.0.2 (c).before.if1.false _ ((searched_places _ _ p.0.2 _ p.1.1 (c).facing.ensures c.settle.ensures).way c.if-settle.true)
+    let f = c.requires.fit in
+    priced_found _ _ f.0 f.2 c.if-runs-m-eq0.false _ ((searched_places _ _ f.2 _ c.requires.places.1 c.facing-seen.ensures c.settle.ensures).way c.if-settle.true)
 
 pub returns : goal.returns
 returns c =
-    let p = (start c).requires in
-    priced_shut _ _ p.0.0 p.0.2 (c).before.if1.false ((searched_places _ _ p.0.2 _ p.1.1 (c).facing.ensures c.settle.ensures).no_way c.if-settle.false)
+    let f = c.requires.fit in
+    priced_shut _ _ f.0 f.2 c.if-runs-m-eq0.false ((searched_places _ _ f.2 _ c.requires.places.1 c.facing-seen.ensures c.settle.ensures).no_way c.if-settle.false)
