@@ -103,6 +103,14 @@ module _ {G : Net} {F : Lanes} {nx ny : ℕ} (m : Mapped G F nx ny) {top low : L
   unfoldable on_by : ℕ → ℕ → ℕ
   on_by d v = through F.steps d v (span F.xs F.ys v (step_of F.steps d v)) (key_by d (step_of F.steps d v))
 
+  -- the key of the line up to v is that of the crossing u that it leads to
+  key_line : (d v u : ℕ) → (line_by d u ≡ line_by d v) × (place_by nx ny d v ≡ suc (place_by nx ny d u))
+      → line_key F K d (line_by d v) (long_by nx ny d) (place_by nx ny d v) ≡ key_by d u
+  unfolding key_by
+  key_line d v u p =
+      ap (λ (l : ℕ). line_key F K d l (long_by nx ny d) (place_by nx ny d v)) (sym p.0)
+      ∙ ap (line_key F K d (line_by d u) (long_by nx ny d)) p.1
+
   key_is : (d v : ℕ) → d ≤ 3 → Inside nx ny v → key_by d v ≡ min (leave F.end K (axis_by d) v) (on_by d v)
   unfolding key_by line_key on_by
   key_is d v dl i = rw (on_place nx ny d v dl i) (ap (min (leave F.end K (axis_by d) v)) (go (dec_lt (step_of F.steps d v) 4356)))
@@ -124,7 +132,7 @@ module _ {G : Net} {F : Lanes} {nx ny : ℕ} (m : Mapped G F nx ny) {top low : L
           gap_is F.xs F.ys (line_by d v) (long_by nx ny d) (place_by nx ny d v) (omega (arith, q.0, most ny nx d m.north_few m.east_few)) (most nx ny d m.east_few m.north_few)
           (omega (arith, p.1)) q.1 (subst (λ (x : ℕ). Toward x (step_of F.steps d v) d) (sym o) t.toward)
           ∙ ap (λ (x : ℕ). span F.xs F.ys x (step_of F.steps d v)) o in
-          rw w (ap (through F.steps d v (span F.xs F.ys v (step_of F.steps d v))) (rw (p.0, p.1) refl))
+          rw w (ap (through F.steps d v (span F.xs F.ys v (step_of F.steps d v))) (key_line d v (step_of F.steps d v) p))
 
   key_leave : (d v : ℕ) → d ≤ 3 → Inside nx ny v → key_by d v ≤ K v + 1638401 * axis_by d
   key_leave d v dl i = omega (arith, key_is d v dl i, leave_most F.end K (axis_by d) v)

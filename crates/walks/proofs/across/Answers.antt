@@ -1,6 +1,5 @@
 use Rattle.walks.proofs.Reading.{across_read}
-use borrow.Author.Rules.{rules}
 use Rattle.walks.proofs.across.Goals as goal
 
-pub returns : goal.returns
-returns c = record { value = search across_read; small = search rules }
+pub returns-clause-value : goal.returns-clause-value
+returns-clause-value c = search across_read

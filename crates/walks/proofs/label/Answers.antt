@@ -1,12 +1,11 @@
 use Rattle.walks.proofs.Reading.{label_along, label_aside, label_both}
-use borrow.Author.Rules.{rules}
 use Rattle.walks.proofs.label.Goals as goal
 
-pub returns-then-a-eq0 : goal.returns-then-a-eq0
-returns-then-a-eq0 c = record { value = search label_along; small = search rules }
+pub returns-then-a-eq0-clause-value : goal.returns-then-a-eq0-clause-value
+returns-then-a-eq0-clause-value c = search label_along
 
-pub returns-then-a-eq1 : goal.returns-then-a-eq1
-returns-then-a-eq1 c = record { value = search label_aside; small = search rules }
+pub returns-then-a-eq1-clause-value : goal.returns-then-a-eq1-clause-value
+returns-then-a-eq1-clause-value c = search label_aside
 
-pub returns : goal.returns
-returns c = record { value = search label_both; small = search rules }
+pub returns-clause-value : goal.returns-clause-value
+returns-clause-value c = search label_both

@@ -1,24 +1,12 @@
 use native.Mathlib.Omega.{arith}
-use Rattle.geometry.proofs.Searching.{none_more}
 use Rattle.crossings.proofs.Sizes.{net_sized}
 use Rattle.walks.proofs.Ending.{inside, mapped}
 use Rattle.walks.proofs.Nexts.{next_found, next_last}
 use Rattle.walks.proofs.next_direction.Goals as goal
 
-pub loop-d-init : goal.loop-d-init
-loop-d-init c = (omega arith, λ j l. absurd (omega arith))
-
-pub leads-requires : goal.leads-requires
-leads-requires c =
-    let p = c.requires.place in
-    record { tables = c.requires.tables; keys = (c.requires.keys.fair.top_sized, c.requires.keys.fair.low_sized, omega (arith, p.1, c.requires.tables.0.xs_few), omega arith) }
-
 pub returns-then-leads : goal.returns-then-leads
 returns-then-leads c = let p = c.requires.place in let k = c.requires.key in
     next_found (mapped _ _ _ _ _ c.requires.tables.0 c.requires.tables.1) (net_sized _ _ _ _ _ c.requires.tables.0) c.requires.keys (inside c.requires.tables.0 p.0) _ _ _ (record { east = p.1; north = p.2 }) p.3 p.4 k.0 k.1 _ (omega arith) c.loop-d.invariant.1 (c.leads.ensures.yes' c.if-leads.true)
-
-pub loop-d-preserved : goal.loop-d-preserved
-loop-d-preserved c = (omega arith, λ j l. none_more _ 0 _ (λ i z. c.loop-d.invariant.1 i) (c.leads.ensures.no' c.if-leads.false) j (omega arith) l)
 
 pub returns : goal.returns
 returns c = let p = c.requires.place in let k = c.requires.key in
