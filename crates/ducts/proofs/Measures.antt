@@ -67,6 +67,7 @@ has_placed (put_same e) = here (sym e)
 has_placed (put_after l p) = there (has_placed p)
 
 has_kept : {x z : ℕ} {l k : List ℕ} → Has z l → Placed x l k → Has z k
+has_kept h put_last = elim h [ ]
 has_kept h (put_before l) = there h
 has_kept h (put_same e) = h
 has_kept (here q) (put_after l p) = here q
