@@ -9,8 +9,8 @@ across-requires c = rw (to_z-of_z w32 c.args.east c.ranges.east, to_z-of_z w32 c
 
 pub returns : goal.returns
 returns c = rw (
-      to_z-of_z w32 c.args.level c.ranges.level,
-      read c.across.type_inv c.across.ensures,
-      to_z-of_z w32 c.args.east c.ranges.east,
-      to_z-of_z w32 c.args.north c.ranges.north,
-    ) refl
+  to_z-of_z w32 c.args.level c.ranges.level,
+  read c.across.type_inv c.across.ensures,
+  to_z-of_z w32 c.args.east c.ranges.east,
+  to_z-of_z w32 c.args.north c.ranges.north,
+) refl

@@ -15,12 +15,11 @@ is_left-left-requires c =
     ((read_line _ _ _ _ _ c.line_of-l.ensures).slopes, c.requires.marks.0.east_small _ c.loop-i-test.true, c.requires.marks.0.north_small _ c.loop-i-test.true)
 
 pub loop-i-preserved : goal.loop-i-preserved
-loop-i-preserved c =
-    (
-      omega (arith, c.loop-i-test.true),
-      upto_next _ _ _ _ _ c.loop-i-test.true
-          (code_from_last _ _ _ _ _ _ _ _ (read_line _ _ _ _ _ c.line_of-l.ensures) c.is_left-left.ensures _ c.requires.record.1 c.filled.ensures) c.loop-i.invariant.1,
-    )
+loop-i-preserved c = (
+  omega (arith, c.loop-i-test.true),
+  upto_next _ _ _ _ _ c.loop-i-test.true
+      (code_from_last _ _ _ _ _ _ _ _ (read_line _ _ _ _ _ c.line_of-l.ensures) c.is_left-left.ensures _ c.requires.record.1 c.filled.ensures) c.loop-i.invariant.1,
+)
 
 pub returns : goal.returns
 returns c = search row_from

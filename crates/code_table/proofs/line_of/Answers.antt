@@ -5,18 +5,16 @@ use Rattle.code_table.proofs.Lines.{line_at, corner_small}
 use Rattle.code_table.proofs.line_of.Goals as goal
 
 pub difference-east-requires : goal.difference-east-requires
-difference-east-requires c =
-    (
-      (corner_small _ _ (point_of c.corner-q.result) c.requires.0 c.next.ensures.below c.corner-q.ensures).0,
-      (corner_small _ _ (point_of c.corner-p.result) c.requires.0 c.requires.1 c.corner-p.ensures).0,
-    )
+difference-east-requires c = (
+  (corner_small _ _ (point_of c.corner-q.result) c.requires.0 c.next.ensures.below c.corner-q.ensures).0,
+  (corner_small _ _ (point_of c.corner-p.result) c.requires.0 c.requires.1 c.corner-p.ensures).0,
+)
 
 pub difference-north-requires : goal.difference-north-requires
-difference-north-requires c =
-    (
-      (corner_small _ _ (point_of c.corner-q.result) c.requires.0 c.next.ensures.below c.corner-q.ensures).1,
-      (corner_small _ _ (point_of c.corner-p.result) c.requires.0 c.requires.1 c.corner-p.ensures).1,
-    )
+difference-north-requires c = (
+  (corner_small _ _ (point_of c.corner-q.result) c.requires.0 c.next.ensures.below c.corner-q.ensures).1,
+  (corner_small _ _ (point_of c.corner-p.result) c.requires.0 c.requires.1 c.corner-p.ensures).1,
+)
 
 pub across-requires : goal.across-requires
 across-requires c =

@@ -26,11 +26,14 @@ pub either-requires : goal.either-requires
 either-requires c = tt
 
 pub narrow-kept-requires : goal.narrow-kept-requires
-narrow-kept-requires c = record { small = c.loop-k.invariant.small; side = (
-        rw (read c.side-x.type_inv refl) c.side-x.ensures.small,
-        rw (read c.side-y.type_inv refl) c.side-y.ensures.small,
-        told c.either.ensures c.if-not-either.false-raw,
-      ) }
+narrow-kept-requires c = record {
+  small = c.loop-k.invariant.small;
+  side = (
+    rw (read c.side-x.type_inv refl) c.side-x.ensures.small,
+    rw (read c.side-y.type_inv refl) c.side-y.ensures.small,
+    told c.either.ensures c.if-not-either.false-raw,
+  );
+}
 
 pub parted-requires : goal.parted-requires
 parted-requires c =
@@ -47,16 +50,15 @@ loop-k-preserved c =
     passed_next _ _ _ _ c.loop-k.invariant c.loop-k-test.true (sym (read c.side-x.type_inv c.side-x.ensures.value)) (sym (read c.side-y.type_inv c.side-y.ensures.value)) c.narrow-kept.ensures (λ e. absurd (c.if-k-count.false e))
 
 pub blocks-2-preserved : goal.blocks-2-preserved
-blocks-2-preserved c =
-    (
-      omega (arith, c.blocks-2.invariant.0, c.first_overlapping-n-in-blocks-2.ensures.after),
-      none_between _ _ _ _ (none_more _ _ _ c.blocks-2.invariant.1
-          (elim c.loop-k-test.branch [
-            | else-loop-k-test w ↦ passed_all _ _ _ _ c.loop-k.invariant w.loop-k-test.false
-            | then-loop-k-test+then-not-either w ↦ passed_shut _ _ _ _ c.loop-k.invariant w.loop-k-test.true (sym (read w.side-x.type_inv w.side-x.ensures.value)) (sym (read w.side-y.type_inv w.side-y.ensures.value)) (neither _ _ (denied w.either.ensures w.if-not-either.true-raw))
-          ]))
-          (none_passed c.first_overlapping-n-in-blocks-2.ensures),
-    )
+blocks-2-preserved c = (
+  omega (arith, c.blocks-2.invariant.0, c.first_overlapping-n-in-blocks-2.ensures.after),
+  none_between _ _ _ _ (none_more _ _ _ c.blocks-2.invariant.1
+      (elim c.loop-k-test.branch [
+        | else-loop-k-test w ↦ passed_all _ _ _ _ c.loop-k.invariant w.loop-k-test.false
+        | then-loop-k-test+then-not-either w ↦ passed_shut _ _ _ _ c.loop-k.invariant w.loop-k-test.true (sym (read w.side-x.type_inv w.side-x.ensures.value)) (sym (read w.side-y.type_inv w.side-y.ensures.value)) (neither _ _ (denied w.either.ensures w.if-not-either.true-raw))
+      ]))
+      (none_passed c.first_overlapping-n-in-blocks-2.ensures),
+)
 
 pub returns : goal.returns
 returns c =

@@ -17,8 +17,7 @@ least_four-four-requires c =
 pub loop-j-preserved : goal.loop-j-preserved
 loop-j-preserved c =
     let l = c.loop-j.invariant in
-    let f : c.loop-j.j + 4 ≤ c.args.stop = omega (arith, c.loop-j-test.true, c.loop-j.invariant.2) in
-    (
+    let f : c.loop-j.j + 4 ≤ c.args.stop = omega (arith, c.loop-j-test.true, c.loop-j.invariant.2) in (
       omega (arith, l.0),
       f,
       omega (arith, f, l.2),

@@ -100,9 +100,9 @@ loop-at-smaller c = omega (arith, c.lesser_child-to.ensures.from, c.lesser_child
 
 pub loop-at-preserved : goal.loop-at-preserved
 loop-at-preserved c = (
-      rearranged_then c.loop-at.invariant.0 (rearranged_swap c.swap.ensures (omega (arith, c.lesser_child-to.ensures.from)) c.lesser_child-to.ensures.within),
-      sinking_next c.loop-at.invariant.1 c.lesser_child-to.ensures c.if-key-u.false c.swap.ensures,
-    )
+  rearranged_then c.loop-at.invariant.0 (rearranged_swap c.swap.ensures (omega (arith, c.lesser_child-to.ensures.from)) c.lesser_child-to.ensures.within),
+  sinking_next c.loop-at.invariant.1 c.lesser_child-to.ensures c.if-key-u.false c.swap.ensures,
+)
 
 pub shape_of-order : goal.shape_of-order
 shape_of-order c = c.loop-at.invariant.0.sized

@@ -70,20 +70,20 @@ slice_bounds-sift-end c = sym (c.loop-hoped.invariant.0 c.args.order.now (rearra
 
 pub sift-requires : goal.sift-requires
 sift-requires c = (
-      heapable (tried_turn (c.loop-hoped.invariant.0 c.args.order.now (rearranged_turn (first_turn c.requires.0.fit c.requires.2 c.requires.3 c.prepare.ensures) c.heapify.ensures.marks)) (c.sooner.ensures.hope c.if-sooner.true) c.swap.ensures c.tried_key.ensures.key),
-      omega arith,
-      tried_heap (c.loop-hoped.invariant.0 c.args.order.now (rearranged_turn (first_turn c.requires.0.fit c.requires.2 c.requires.3 c.prepare.ensures) c.heapify.ensures.marks)) (c.sooner.ensures.hope c.if-sooner.true) c.swap.ensures c.tried_key.result refl c.loop-hoped.invariant.1,
-    )
+  heapable (tried_turn (c.loop-hoped.invariant.0 c.args.order.now (rearranged_turn (first_turn c.requires.0.fit c.requires.2 c.requires.3 c.prepare.ensures) c.heapify.ensures.marks)) (c.sooner.ensures.hope c.if-sooner.true) c.swap.ensures c.tried_key.ensures.key),
+  omega arith,
+  tried_heap (c.loop-hoped.invariant.0 c.args.order.now (rearranged_turn (first_turn c.requires.0.fit c.requires.2 c.requires.3 c.prepare.ensures) c.heapify.ensures.marks)) (c.sooner.ensures.hope c.if-sooner.true) c.swap.ensures c.tried_key.result refl c.loop-hoped.invariant.1,
+)
 
 pub loop-hoped-smaller-then-sooner : goal.loop-hoped-smaller-then-sooner
 loop-hoped-smaller-then-sooner c = omega (arith, c.sooner.ensures.hope c.if-sooner.true)
 
 pub loop-hoped-preserved-then-sooner : goal.loop-hoped-preserved-then-sooner
 loop-hoped-preserved-then-sooner c = (
-      λ bends t. rearranged_turn (tried_turn (c.loop-hoped.invariant.0 bends t) (c.sooner.ensures.hope c.if-sooner.true) c.swap.ensures c.tried_key.ensures.key) c.sift.ensures.marks,
-      c.sift.ensures.heap,
-      c.tried_key.ensures.sized,
-    )
+  λ bends t. rearranged_turn (tried_turn (c.loop-hoped.invariant.0 bends t) (c.sooner.ensures.hope c.if-sooner.true) c.swap.ensures c.tried_key.ensures.key) c.sift.ensures.marks,
+  c.sift.ensures.heap,
+  c.tried_key.ensures.sized,
+)
 
 pub shape_of-order-then-due-next : goal.shape_of-order-then-due-next
 shape_of-order-then-due-next c = (c.loop-hoped.invariant.0 c.args.order.now (rearranged_turn (first_turn c.requires.0.fit c.requires.2 c.requires.3 c.prepare.ensures) c.heapify.ensures.marks)).zones.sized ∙ sym c.requires.3.bends.sized
@@ -139,7 +139,7 @@ loop-hoped-smaller c = omega (arith, c.if-due-next.false)
 
 pub loop-hoped-preserved : goal.loop-hoped-preserved
 loop-hoped-preserved c = (
-      λ bends t. settled_turn (c.loop-hoped.invariant.0 bends t) (heap_least (c.loop-hoped.invariant.0 c.args.order.now (rearranged_turn (first_turn c.requires.0.fit c.requires.2 c.requires.3 c.prepare.ensures) c.heapify.ensures.marks)) c.loop-hoped.invariant.1) c.least-next.ensures c.sooner.ensures c.if-sooner.false (omega (arith, c.if-due-next.false)) c.if-s-first.false c.swap-in-loop-hoped.ensures c.ease.ensures.keys,
-      settled_heap (c.loop-hoped.invariant.0 c.args.order.now (rearranged_turn (first_turn c.requires.0.fit c.requires.2 c.requires.3 c.prepare.ensures) c.heapify.ensures.marks)) (heap_least (c.loop-hoped.invariant.0 c.args.order.now (rearranged_turn (first_turn c.requires.0.fit c.requires.2 c.requires.3 c.prepare.ensures) c.heapify.ensures.marks)) c.loop-hoped.invariant.1) c.least-next.ensures c.sooner.ensures c.if-sooner.false (omega (arith, c.if-due-next.false)) c.if-s-first.false c.swap-in-loop-hoped.ensures c.ease.ensures.keys c.loop-hoped.invariant.1,
-      c.ease.ensures.sized,
-    )
+  λ bends t. settled_turn (c.loop-hoped.invariant.0 bends t) (heap_least (c.loop-hoped.invariant.0 c.args.order.now (rearranged_turn (first_turn c.requires.0.fit c.requires.2 c.requires.3 c.prepare.ensures) c.heapify.ensures.marks)) c.loop-hoped.invariant.1) c.least-next.ensures c.sooner.ensures c.if-sooner.false (omega (arith, c.if-due-next.false)) c.if-s-first.false c.swap-in-loop-hoped.ensures c.ease.ensures.keys,
+  settled_heap (c.loop-hoped.invariant.0 c.args.order.now (rearranged_turn (first_turn c.requires.0.fit c.requires.2 c.requires.3 c.prepare.ensures) c.heapify.ensures.marks)) (heap_least (c.loop-hoped.invariant.0 c.args.order.now (rearranged_turn (first_turn c.requires.0.fit c.requires.2 c.requires.3 c.prepare.ensures) c.heapify.ensures.marks)) c.loop-hoped.invariant.1) c.least-next.ensures c.sooner.ensures c.if-sooner.false (omega (arith, c.if-due-next.false)) c.if-s-first.false c.swap-in-loop-hoped.ensures c.ease.ensures.keys c.loop-hoped.invariant.1,
+  c.ease.ensures.sized,
+)

@@ -36,13 +36,16 @@ bounds-key-s c =
     omega (arith, h, c.requires.testable.keyed)
 
 pub improved-best-requires : goal.improved-best-requires
-improved-best-requires c = record { sound = (c.requires.sound.0, c.requires.sound.1, c.loop-i.invariant.2, c.place_of-a.ensures); relaxable = record {
-        below = c.requires.testable.below;
-        settled_below = (c.requires.testable.marks (c.loop-i.i - 1) (omega (arith, c.loop-i-test.true)) (omega (arith, c.loop-i-test.true, c.loop-i.invariant.1)));
-        place = c.place_of-b.ensures;
-        small = c.requires.testable.small _ (among _ _ _ _ (omega (arith, c.loop-i-test.true)) (omega (arith, c.loop-i-test.true, c.loop-i.invariant.1)));
-        itself = λ q. absurd (c.requires.testable.other (record { place = c.loop-i.i - 1; from = omega (arith, c.loop-i-test.true); before = omega (arith, c.loop-i-test.true, c.loop-i.invariant.1); is = sym q }));
-      } }
+improved-best-requires c = record {
+  sound = (c.requires.sound.0, c.requires.sound.1, c.loop-i.invariant.2, c.place_of-a.ensures);
+  relaxable = record {
+    below = c.requires.testable.below;
+    settled_below = (c.requires.testable.marks (c.loop-i.i - 1) (omega (arith, c.loop-i-test.true)) (omega (arith, c.loop-i-test.true, c.loop-i.invariant.1)));
+    place = c.place_of-b.ensures;
+    small = c.requires.testable.small _ (among _ _ _ _ (omega (arith, c.loop-i-test.true)) (omega (arith, c.loop-i-test.true, c.loop-i.invariant.1)));
+    itself = λ q. absurd (c.requires.testable.other (record { place = c.loop-i.i - 1; from = omega (arith, c.loop-i-test.true); before = omega (arith, c.loop-i-test.true, c.loop-i.invariant.1); is = sym q }));
+  };
+}
 
 pub loop-i-smaller : goal.loop-i-smaller
 loop-i-smaller c = omega (arith, c.loop-i-test.true)

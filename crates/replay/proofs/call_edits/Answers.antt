@@ -50,12 +50,11 @@ loop-item-smaller c =
     omega (arith, going_on _ _ _ _ _ _ _ c.loop-item.invariant.0 _ (sym c.read_from-reading.ensures ∙ c.in-Found.is))
 
 pub loop-item-preserved : goal.loop-item-preserved
-loop-item-preserved c =
-    (
-      going_next _ _ _ _ _ _ _ c.loop-item.invariant.0 _ (sym c.read_from-reading.ensures ∙ c.in-Found.is) _ _ c.requires c.apply-answer.ensures,
-      search rules,
-      search rules,
-      search rules,
-      search rules,
-      search rules,
-    )
+loop-item-preserved c = (
+  going_next _ _ _ _ _ _ _ c.loop-item.invariant.0 _ (sym c.read_from-reading.ensures ∙ c.in-Found.is) _ _ c.requires c.apply-answer.ensures,
+  search rules,
+  search rules,
+  search rules,
+  search rules,
+  search rules,
+)

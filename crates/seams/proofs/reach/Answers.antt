@@ -25,11 +25,14 @@ returns-then-behind c =
 pub tighten-kept-requires : goal.tighten-kept-requires
 tighten-kept-requires c =
     let g = c.loop-k.invariant in
-    record { kept = g.kept; side = (
+    record {
+      kept = g.kept;
+      side = (
         rw (read c.side-x.type_inv refl) c.side-x.ensures.small,
         rw (read c.side-y.type_inv refl) c.side-y.ensures.small,
         not_behind _ _ (c.behind.ensures.no' c.if-behind.false),
-      ) }
+      );
+    }
 
 pub loop-k-preserved : goal.loop-k-preserved
 loop-k-preserved c =

@@ -14,13 +14,16 @@ near_word-w-requires c = (c.requires.places_len.1.sized, c.requires.le_first.0, 
 pub relax_word-low-requires : goal.relax_word-low-requires
 relax_word-low-requires c =
     let x = c.loop-q.invariant.1 in
-    record { places_len = (c.requires.places_len.0, c.requires.places_len.2); parted = (
+    record {
+      places_len = (c.requires.places_len.0, c.requires.places_len.2);
+      parted = (
         x.parted,
         λ v m.
             let n = marked_near c.args.rows.now c.args.facing c.args.by.mark (omega (arith, c.near_word-w.type_inv)) c.near_word-w.ensures c.near_base-base.ensures c.loop-q-test.true v m in
             let h = near_here c.args.facing c.requires.places_len.1 c.requires.parted.1 c.requires.le_first.2 c.requires.le_first.1 v n in
             (h.0, x.sorted.here v h.1),
-      ) }
+      );
+    }
 
 pub loop-q-preserved : goal.loop-q-preserved
 loop-q-preserved c =

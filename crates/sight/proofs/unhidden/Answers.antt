@@ -9,13 +9,12 @@ pub overflow_cast-last : goal.overflow_cast-last
 overflow_cast-last c = omega (arith, c.slice_known-2-1.given c.args.v)
 
 pub hidden_by-requires : goal.hidden_by-requires
-hidden_by-requires c =
-    (
-      c.requires.records.0.fit.blocks,
-      c.requires.records.0.turns _,
-      place_is_in_range _ _ _ c.requires.records.0.fit c.requires.marks.0 c.requires.places.0,
-      place_is_in_range _ _ _ c.requires.records.0.fit c.requires.marks.1 c.requires.places.1,
-    )
+hidden_by-requires c = (
+  c.requires.records.0.fit.blocks,
+  c.requires.records.0.turns _,
+  place_is_in_range _ _ _ c.requires.records.0.fit c.requires.marks.0 c.requires.places.0,
+  place_is_in_range _ _ _ c.requires.records.0.fit c.requires.marks.1 c.requires.places.1,
+)
 
 pub returns-then-hidden_by : goal.returns-then-hidden_by
 returns-then-hidden_by c = record { tells = unseen_block _ _ _ _ _ _ _ c.requires.places.0 c.requires.places.1 c.hidden_by.ensures c.if-hidden_by.true; sized = c.requires.marks.2 }
