@@ -134,3 +134,10 @@ module _ (xs ys trail : List ℕ) (n start : ℕ) (long : length trail ≡ 4356)
 
     pub next_below : (list : List ℕ) (v k r : ℕ) → Written xs ys us n list v k → k < n → r ≡ moved_by (word trail (k - 1)) v → r < 4356
     next_below list v k r w l e = omega (arith, next_at_lem trail n start long one most v k r l w.some w.at e, small k l)
+
+pub three : (q : List ℕ) (a b c : ℕ) → length q ≡ 3 → set (set (set q 0 a) 1 b) 2 c ≡ a ∷ b ∷ c ∷ []
+three [] a b c e = absurd (omega arith)
+three (x ∷ []) a b c e = absurd (omega arith)
+three (x ∷ y ∷ []) a b c e = absurd (omega arith)
+three (x ∷ y ∷ z ∷ []) a b c e = refl
+three (x ∷ y ∷ z ∷ w ∷ ws) a b c e = absurd (omega arith)
