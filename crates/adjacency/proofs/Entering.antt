@@ -15,8 +15,7 @@ use Rattle.tables.proofs.Pairs.{tri, tri_row, tri_col, tri_below, tri_240, pair_
 use Rattle.tables.proofs.Marks.{byte_up, byte_down}
 use Rattle.bits.specs.inner.Bits.{bit, With}
 use Rattle.bits.proofs.Counting.{bit_zero}
-use Rattle.adjacency.proofs.Words.{by_words}
-use Rattle.adjacency.specs.inner.Adjacent.{Adjacent, Said, Shows, Rows, Entered, Noted, near_bit, spot}
+use Rattle.adjacency.specs.inner.Adjacent.{Adjacent, Shows, Rows, Entered, Noted, near_bit, spot}
 
 -- the place of a pair's byte
 spot_up : (u v : ℕ) → u < v → spot u v ≡ tri v + u
@@ -68,14 +67,14 @@ module _ (blocks pairs : List ℕ) where
   -- what the byte at n does to bit u of row v: nothing, or it sets it
   abbrev Step : ℕ → ℕ → ℕ → ℕ → ℕ → Type 0
   Step n v u old new =
-      ((new ≡ old) × (spot u v ≡ n → Adjacent blocks (Said pairs) v u → ⊥)) ⊎ ((new ≡ 1) × Adjacent blocks (Said pairs) v u × (spot u v ≡ n))
+      ((new ≡ old) × (spot u v ≡ n → Adjacent blocks pairs v u → ⊥)) ⊎ ((new ≡ 1) × Adjacent blocks pairs v u × (spot u v ≡ n))
 
-  entered_next : (old new : List ℕ) (n : ℕ) → length new ≡ 720 → ((v u : ℕ) → v < 192 → u < 192 → Step n v u (near_bit old v u) (near_bit new v u))
+  entered_next : (old new : List ℕ) (n : ℕ) → length new ≡ 576 → ((v u : ℕ) → v < 192 → u < 192 → Step n v u (near_bit old v u) (near_bit new v u))
       → Entered blocks pairs old n → Entered blocks pairs new (n + 1)
   entered_next old new n l h d = record { sized = l; each = λ v u a b. go v u (h v u a b) (d.each v u a b) }
     where
-      go : (v u : ℕ) → Step n v u (near_bit old v u) (near_bit new v u) → Shows (Adjacent blocks (Said pairs) v u × (spot u v < n)) (near_bit old v u)
-          → Shows (Adjacent blocks (Said pairs) v u × (spot u v < n + 1)) (near_bit new v u)
+      go : (v u : ℕ) → Step n v u (near_bit old v u) (near_bit new v u) → Shows (Adjacent blocks pairs v u × (spot u v < n)) (near_bit old v u)
+          → Shows (Adjacent blocks pairs v u × (spot u v < n + 1)) (near_bit new v u)
       go v u (inl (e, f)) s =
           rw e
           (record {
@@ -84,7 +83,7 @@ module _ (blocks pairs : List ℕ) where
             no' = λ x. s.no' (x.0, below x (ℕ_discrete (spot u v) n));
           })
         where
-          below : Adjacent blocks (Said pairs) v u × (spot u v < n + 1) → Dec (spot u v ≡ n) → spot u v < n
+          below : Adjacent blocks pairs v u × (spot u v < n + 1) → Dec (spot u v ≡ n) → spot u v < n
           below x (yes q) = absurd (f q x.0)
           below x (no q) = omega (arith, x.1)
       go v u (inr (e, a, q)) s = record { small = omega (arith, e); yes' = λ y. (a, omega (arith, q)); no' = λ y. e }
@@ -141,7 +140,7 @@ module _ (blocks pairs : List ℕ) where
   entered_at adj n m e d = rw e at d
 
   -- nothing is entered in rows of zeros
-  pub entered_none : (adj : List ℕ) (l : ℕ) → adj ≡ filled l 0 → l ≡ 720 → Entered blocks pairs adj 0
+  pub entered_none : (adj : List ℕ) (l : ℕ) → adj ≡ filled l 0 → l ≡ 576 → Entered blocks pairs adj 0
   unfolding filled
   entered_none adj l e z =
       rw e
@@ -153,20 +152,26 @@ module _ (blocks pairs : List ℕ) where
       })
 
   -- all pairs of corners are entered
-  pub entered_all : (adj : List ℕ) (n : ℕ) → n ≡ tri 192 → Entered blocks pairs adj n → Rows blocks (Said pairs) adj 576
-  entered_all adj n e d =
-      record { sized = d.sized; each = by_words (Adjacent blocks (Said pairs)) adj 192 (λ v u x y. forget v u (near_bit adj v u) x y (d.each v u x y)) }
+  pub entered_all : (adj : List ℕ) (n : ℕ) → n ≡ tri 192 → Entered blocks pairs adj n → Rows blocks pairs adj 576
+  entered_all adj n e d = record { sized = d.sized; each = each }
     where
-      forget : (v u b : ℕ) → v < 192 → u < 192 → Shows (Adjacent blocks (Said pairs) v u × (spot u v < n)) b → Shows (Adjacent blocks (Said pairs) v u) b
+      forget : (v u b : ℕ) → v < 192 → u < 192 → Shows (Adjacent blocks pairs v u × (spot u v < n)) b → Shows (Adjacent blocks pairs v u) b
       forget v u b x y s =
           record { small = s.small; yes' = λ q. (s.yes' q).0; no' = λ a. s.no' (a, omega (arith, spot_low u v 192 a.differ y x)) }
 
+      each : (k : ℕ) → k < 576 → (i : ℕ) → i < 64 → Shows (Adjacent blocks pairs (k / 3) (64 * (k % 3) + i)) (bit i (word adj k))
+      each k l i m =
+          let a : (64 * (k % 3) + i) % 64 ≡ i = omega arith in
+          let b : 3 * (k / 3) + (64 * (k % 3) + i) / 64 ≡ k = omega arith in
+          let s = d.each (k / 3) (64 * (k % 3) + i) (omega arith) (omega arith) in
+          forget (k / 3) (64 * (k % 3) + i) (bit i (word adj k)) (omega arith) (omega arith) (rw (a, b) at s)
+
 -- one bit of one row
-pub note_none : (adj : List ℕ) (v u : ℕ) (t : Bool) → length adj ≡ 720 → not t ≡ true → Noted adj adj v u t
+pub note_none : (adj : List ℕ) (v u : ℕ) (t : Bool) → length adj ≡ 576 → not t ≡ true → Noted adj adj v u t
 note_none adj v u t l e =
     record { sized = l; here = λ h. let k : ◌≡◌ {A = ℕ} 0 1 = cc (ap not h) in absurd (omega arith); unset = λ h. refl; rest = λ w s x y d. refl }
 
-pub note_one : (adj : List ℕ) (v u w : ℕ) (t : Bool) → length adj ≡ 720 → v < 192 → u < 192 → not t ≡ false → With (word adj (3 * v + u / 64)) (u % 64) w
+pub note_one : (adj : List ℕ) (v u w : ℕ) (t : Bool) → length adj ≡ 576 → v < 192 → u < 192 → not t ≡ false → With (word adj (3 * v + u / 64)) (u % 64) w
     → Noted adj (set adj (3 * v + u / 64) w) v u t
 note_one adj v u w t l a b e h =
     record {

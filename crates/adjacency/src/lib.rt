@@ -5,7 +5,7 @@ ghost use Rattle.std.specs.Prelude.{◌≡◌, true, ℕ, ◌+◌, ◌*◌, ◌<
 ghost use Rattle.bits.specs.inner.Bits.{bit};
 ghost use Rattle.lists.specs.inner.Filled.{filled};
 ghost use Rattle.tables.specs.Tables.{is_corner, pair_index};
-ghost use Rattle.adjacency.specs.inner.Adjacent.{Adjacent, Said, Shows, Rows, Entered, Noted, NoneClear};
+ghost use Rattle.adjacency.specs.inner.Adjacent.{Adjacent, Shows, Rows, Entered, Noted, NoneClear};
 
 // 1 where the byte says clear and corner u is present, else 0.
 fn clear_corner(blocks: &[u16], byte: u8, u: usize) -> u64
@@ -24,7 +24,7 @@ fn clear_corner(blocks: &[u16], byte: u8, u: usize) -> u64
 // 1 where corner u is present and has a clear straight to mark v, else 0.
 pub fn adjacent(blocks: &[u16], pairs: &[u8], v: usize, u: usize) -> u64
     requires { (length blocks.now ≡ 408) × (length pairs.now ≡ 28680) × (v < 240) × (u < 192) }
-    ensures { Shows (Adjacent blocks.now (Said pairs.now) v u) result }
+    ensures { Shows (Adjacent blocks.now pairs.now v u) result }
 {
     if u == v {
         return 0;
@@ -35,7 +35,7 @@ pub fn adjacent(blocks: &[u16], pairs: &[u8], v: usize, u: usize) -> u64
 // The corners 64 q to 64 q + 63 that are near mark v, each by its pair.
 fn word_by_pairs(blocks: &[u16], pairs: &[u8], v: usize, q: usize) -> u64
     requires { (length blocks.now ≡ 408) × (length pairs.now ≡ 28680) × (v < 240) × (q < 3) }
-    ensures { (i : ℕ) → i < 64 → Shows (Adjacent blocks.now (Said pairs.now) v (64 * q + i)) (bit i result) }
+    ensures { (i : ℕ) → i < 64 → Shows (Adjacent blocks.now pairs.now v (64 * q + i)) (bit i result) }
 {
     let mut w = 0;
     let mut k = 64;
@@ -50,7 +50,7 @@ fn word_by_pairs(blocks: &[u16], pairs: &[u8], v: usize, q: usize) -> u64
 // The same for a mark above all corners, whose bytes stand together.
 fn word_by_row(blocks: &[u16], pairs: &[u8], v: usize, q: usize) -> u64
     requires { (length blocks.now ≡ 408) × (length pairs.now ≡ 28680) × (192 ≤ v) × (v < 240) × (q < 3) }
-    ensures { (i : ℕ) → i < 64 → Shows (Adjacent blocks.now (Said pairs.now) v (64 * q + i)) (bit i result) }
+    ensures { (i : ℕ) → i < 64 → Shows (Adjacent blocks.now pairs.now v (64 * q + i)) (bit i result) }
 {
     let start = tables::pair_index(64 * q, v);
     let mut w = 0;
@@ -66,7 +66,7 @@ fn word_by_row(blocks: &[u16], pairs: &[u8], v: usize, q: usize) -> u64
 // The corners 64 q to 64 q + 63 that are near mark v.
 pub fn adjacent_word(blocks: &[u16], pairs: &[u8], v: usize, q: usize) -> u64
     requires { (length blocks.now ≡ 408) × (length pairs.now ≡ 28680) × (v < 240) × (q < 3) }
-    ensures { (i : ℕ) → i < 64 → Shows (Adjacent blocks.now (Said pairs.now) v (64 * q + i)) (bit i result) }
+    ensures { (i : ℕ) → i < 64 → Shows (Adjacent blocks.now pairs.now v (64 * q + i)) (bit i result) }
 {
     if v < 192 {
         return word_by_pairs(blocks, pairs, v, q);
@@ -86,7 +86,7 @@ fn clear(adj: &mut [u64])
 
 // Sets bit u of row v, if corner u is there.
 fn note(adj: &mut [u64], v: usize, u: usize, there: bool)
-    requires { (length adj.old ≡ 720) × (v < 192) × (u < 192) }
+    requires { (length adj.old ≡ 576) × (v < 192) × (u < 192) }
     ensures { Noted adj.old adj.new v u there }
 {
     if !there {
@@ -172,9 +172,9 @@ fn enter_row(blocks: &[u16], pairs: &[u8], adj: &mut [u64], start: usize, j: usi
 }
 
 // The corners near each corner, in three words each.
-fn fill_corners(blocks: &[u16], pairs: &[u8], adj: &mut [u64])
-    requires { (length blocks.now ≡ 408) × (length pairs.now ≡ 28680) × (length adj.old ≡ 720) }
-    ensures { Rows blocks.now (Said pairs.now) adj.new 576 }
+pub fn fill_rows(blocks: &[u16], pairs: &[u8], adj: &mut [u64])
+    requires { (length blocks.now ≡ 408) × (length pairs.now ≡ 28680) × (length adj.old ≡ 576) }
+    ensures { Rows blocks.now pairs.now adj.new 576 }
 {
     clear(adj);
     let mut start = 0;
@@ -183,18 +183,5 @@ fn fill_corners(blocks: &[u16], pairs: &[u8], adj: &mut [u64])
         enter_row(blocks, pairs, adj, start, j);
         start += j;
         j += 1;
-    }
-}
-
-// The corners near each mark, in three words each.
-pub fn fill_rows(blocks: &[u16], pairs: &[u8], adj: &mut [u64])
-    requires { (length blocks.now ≡ 408) × (length pairs.now ≡ 28680) × (length adj.old ≡ 720) }
-    ensures { Rows blocks.now (Said pairs.now) adj.new 720 }
-{
-    fill_corners(blocks, pairs, adj);
-    let mut k = 576;
-    while k < 720 {
-        adj[k] = adjacent_word(blocks, pairs, k / 3, k % 3);
-        k += 1;
     }
 }

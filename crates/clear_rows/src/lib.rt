@@ -10,7 +10,7 @@ ghost use Rattle.tables.specs.Tables.{stored};
 ghost use Rattle.codes.specs.inner.Codes.{RightRecord, Upright};
 ghost use Rattle.code_table.specs.inner.Lines.{Marks, mark_at, PlacesOf};
 ghost use Rattle.visibility.specs.Visibility.{ByPlaces};
-ghost use Rattle.adjacency.specs.inner.Adjacent.{Rows};
+ghost use Rattle.mark_rows.specs.inner.Adjacent.{Rows};
 ghost use Rattle.corner_words.specs.inner.Corners.{CornersOf, Lefts};
 ghost use Rattle.clear_rows.specs.inner.Sparing.{Spared, Seen, WordFor, AllSay, Kept, Sifts, Changed, HidBy, InTwo, Against, WithoutIf};
 

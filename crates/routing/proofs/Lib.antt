@@ -5,4 +5,3 @@ pub mod Unique
 pub mod Fits
 pub mod Checking
 pub mod Maps
-pub mod Bytes

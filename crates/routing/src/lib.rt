@@ -6,9 +6,9 @@ ghost use Rattle.lists.specs.inner.Filled.{filled};
 ghost use Rattle.lists.specs.inner.Tells.{Tells};
 ghost use Rattle.tables.specs.Tables.{stored, first_end, second_end};
 ghost use Rattle.tables.specs.inner.Fit.{Fit};
-ghost use Rattle.adjacency.specs.inner.Adjacent.{Said, Rows};
+ghost use Rattle.adjacency.specs.inner.Adjacent.{Rows};
 ghost use Rattle.search.specs.Network.{ByBytes, graph};
-ghost use Rattle.search.specs.inner.Keys.{unreached, Filled, Searchable, Keyed, Searched};
+ghost use Rattle.search.specs.inner.Keys.{Searchable, Keyed};
 ghost use Rattle.search.specs.inner.Parts.{Places};
 ghost use Rattle.routing.specs.Routes.{RouteIs, Routed};
 ghost use Rattle.routing.specs.inner.Walking.{TightKey, Hop, Walked};
@@ -91,24 +91,6 @@ fn walk(
     }
 }
 
-// Finds the keys for run m, of which none is reached at first; answers whether there is a way.
-fn search_run(
-    blocks: &[u16],
-    runs: &[u16],
-    places: &[u16],
-    pairs: &[u8],
-    adj: &[u64],
-    m: usize,
-    key: &mut [u32],
-) -> bool
-    requires searchable { (Searchable (stored blocks.now runs.now) pairs.now) × (Places (stored blocks.now runs.now) places.now 240) × (Rows blocks.now (Said pairs.now) adj.now 720) }
-    requires m_bound { (m < 24) × (Filled key.old 240 unreached) }
-    ensures { Searched (graph (stored blocks.now runs.now) (ByBytes pairs.now)) (first_end m) (second_end m) key.new result }
-{
-    let facing = tables::pair_byte(pairs, 192 + 2 * m, 193 + 2 * m) == 254;
-    settling::settle(blocks, runs, places, adj, facing, m, key)
-}
-
 // Run m's route record, written into its own 197 words.
 pub fn route(
     blocks: &[u16],
@@ -120,7 +102,7 @@ pub fn route(
     part: &mut [u32],
 )
     requires fit { (Fit (stored blocks.now runs.now)) × (length pairs.now ≡ 28680) × (m < 24) × (length part.old ≡ 197) }
-    requires rows { (Rows blocks.now (Said pairs.now) adj.now 720) × (Places (stored blocks.now runs.now) places.now 240) }
+    requires rows { (Rows blocks.now pairs.now adj.now 576) × (Places (stored blocks.now runs.now) places.now 240) }
     ensures { RouteIs (stored blocks.now runs.now) (ByBytes pairs.now) m part.new }
 {
     lists::fill32(part, 0);
@@ -128,7 +110,7 @@ pub fn route(
         return;
     }
     let mut key = [4000000000u32; 240];
-    if search_run(blocks, runs, places, pairs, adj, m, &mut key) {
+    if settling::settle(blocks, runs, places, pairs, adj, m, &mut key) {
         let n = walk(blocks, runs, pairs, m, &key, part);
         part[0] = 1;
         part[1] = key[192 + 2 * m] / 256;
@@ -145,7 +127,7 @@ pub fn all_routes(blocks: &[u16], runs: &[u16], pairs: &[u8], routes: &mut [u32]
 {
     let mut places = [0u16; 480];
     search::list_places(blocks, runs, &mut places);
-    let mut adj = [0u64; 720];
+    let mut adj = [0u64; 576];
     adjacency::fill_rows(blocks, pairs, &mut adj);
     let mut m = 0;
     while m < 24 {
@@ -167,7 +149,7 @@ fn route_right(
     m: usize,
 ) -> bool
     requires fit { (Fit (stored blocks.now runs.now)) × (length pairs.now ≡ 28680) × (m < 24) × (length part.now ≡ 197) }
-    requires rows { (Rows blocks.now (Said pairs.now) adj.now 720) × (Places (stored blocks.now runs.now) places.now 240) }
+    requires rows { (Rows blocks.now pairs.now adj.now 576) × (Places (stored blocks.now runs.now) places.now 240) }
     ensures { Tells (RouteIs (stored blocks.now runs.now) (ByBytes pairs.now) m part.now) result }
 {
     let mut due = [0u32; 197];
@@ -182,7 +164,7 @@ pub fn routes_right(blocks: &[u16], runs: &[u16], pairs: &[u8], routes: &[u32]) 
 {
     let mut places = [0u16; 480];
     search::list_places(blocks, runs, &mut places);
-    let mut adj = [0u64; 720];
+    let mut adj = [0u64; 576];
     adjacency::fill_rows(blocks, pairs, &mut adj);
     let mut k = 0;
     while k < 24 {

@@ -14,12 +14,12 @@ use Rattle.tables.specs.Tables.{Records, first_end, second_end}
 use Rattle.tables.specs.inner.Fit.{Fit}
 use Rattle.visibility.specs.Visibility.{ByPlaces}
 use Rattle.visibility.proofs.Exists.{places_dec}
-use Rattle.adjacency.specs.inner.Adjacent.{Rows}
+use Rattle.mark_rows.specs.inner.Adjacent.{Rows}
 use Rattle.search.specs.Network.{graph}
 use Rattle.search.specs.inner.Keys.{Keyed, Searched}
-use Rattle.search.specs.inner.Parts.{ByRows}
+use Rattle.row_search.specs.inner.Rows.{ByRows}
 use Rattle.search.proofs.Network.{Sized, sized}
-use Rattle.search.proofs.Told.{told_searched}
+use Rattle.row_search.proofs.Told.{told_searched}
 use Rattle.routing.specs.Routes.{found_words, RouteIs, no_run, found, no_way}
 use Rattle.routing.proofs.Walks.{Final, L, settled}
 use Rattle.routing.proofs.Fits.{route_exists}

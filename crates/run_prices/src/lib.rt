@@ -8,7 +8,7 @@ ghost use Rattle.tables.specs.Tables.{stored, first_end, second_end};
 ghost use Rattle.tables.specs.inner.Fit.{Fit};
 ghost use Rattle.codes.specs.inner.Codes.{Upright};
 ghost use Rattle.visibility.specs.Visibility.{ByPlaces};
-ghost use Rattle.adjacency.specs.inner.Adjacent.{Rows};
+ghost use Rattle.mark_rows.specs.inner.Adjacent.{Rows};
 ghost use Rattle.search.specs.inner.Parts.{Places};
 ghost use Rattle.run_prices.specs.Prices.{Priced, Prices};
 
@@ -51,7 +51,7 @@ fn run_price(
     }
     let mut key = [4000000000u32; 240];
     let seen = facing(blocks, runs, near, m);
-    if settling::settle(blocks, runs, places, rows, seen, m, &mut key) {
+    if row_settling::settle(blocks, runs, places, rows, seen, m, &mut key) {
         return Price {
             state: 1,
             charge: key[192 + 2 * m] / 256,

@@ -1,6 +1,5 @@
 pub mod Parts
 pub mod Words
-pub mod Told
 pub mod Relaxing
 pub mod Steps
 pub mod Network

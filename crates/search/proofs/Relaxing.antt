@@ -1,49 +1,80 @@
 -- A settled mark's row and the first end, relaxed word by word.
 use mathlib.Core.Path.{◌≡◌, sym, ap, ◌∙◌, subst}
 use mathlib.Core.Logic.{◌⊎◌, inl, inr}
-use mathlib.Core.Bool.{Bool, true, false, cond}
 use mathlib.Core.List.{List}
-use Prim.Native.Nat.{ℕ, ◌+◌, ◌*◌, ◌/◌, ◌%◌, ◌^◌, ◌<◌, ◌≤◌}
-use native.Mathlib.Decide.{dec_lt}
+use Prim.Native.Nat.{ℕ, ◌+◌, ◌*◌, ◌-◌, ◌/◌, ◌%◌, ◌^◌, ◌<◌, ◌≤◌}
+use native.Mathlib.Decide.{ℕ_discrete, dec_lt}
 use native.Mathlib.Omega.{arith}
-use borrow.Author.Tests.{lt-ltb, le-ltb}
+use borrow.Author.Tests.{lt-ltb, le-ltb, ne_eqb}
+use lib.ListN.{length, take, drop, set, length-set}
+use lib.Seq.{get_or-set_same, get_or-set_other}
 use Rattle.geometry.specs.Words.{word}
 use Rattle.bits.specs.inner.Bits.{bit}
 use Rattle.bits.proofs.Counting.{bit_zero, bit_low}
-use Rattle.adjacency.specs.inner.Adjacent.{near_bit}
-use Rattle.search.specs.inner.Parts.{Here, Bend, Bends, Parted, Passed, Marked, told_bit, ByRows, Tidy, near_word, near_base, Seen}
+use Rattle.tables.specs.Tables.{pair_byte}
+use Rattle.tables.proofs.Splices.{part_word, part_length}
+use Rattle.adjacency.specs.inner.Adjacent.{Adjacent, Shows, Rows}
+use Rattle.search.specs.inner.Parts.{Here, Bend, Bends, Parted, Passed, Marked, Row, near_word, near_base, Seen}
 use Rattle.search.proofs.Network.{corner_below}
 use Rattle.search.proofs.Parts.{passed_none, passed_both, passed_under}
-use Rattle.search.proofs.Told.{told_corner, told_end, told_ends, told_small}
+
+-- the words of a row, written one by one
+pub row_none : (blocks pairs row : List ℕ) (v : ℕ) → length row ≡ 3 → Row blocks pairs row v 0
+row_none blocks pairs row v l = record { sized = l; each = λ q h. absurd (omega arith) }
+
+pub row_next : (blocks pairs row : List ℕ) (v n w : ℕ) → Row blocks pairs row v n → n < 3 → ((i : ℕ) → i < 64 → Shows (Adjacent blocks pairs v (64 * n + i)) (bit i w))
+    → Row blocks pairs (set row n w) v (n + 1)
+row_next blocks pairs row v n w r l h = record { sized = length-set row n w ∙ r.sized; each = λ q b. at q b (dec_lt q n) }
+  where
+    At : ℕ → ℕ → Type 0
+    At q x = (i : ℕ) → i < 64 → Shows (Adjacent blocks pairs v (64 * q + i)) (bit i x)
+
+    at : (q : ℕ) → q < n + 1 → Dec (q < n) → At q (word (set row n w) q)
+    at q b (yes g) = subst (At q) (sym (get_or-set_other row n q w 0 (omega arith))) (r.each q g)
+    at q b (no g) =
+        let e : n ≡ q = omega arith in
+        subst (λ (j : ℕ). At j (word (set row n w) j)) e (subst (At n) (sym (get_or-set_same row n w 0 (omega (arith, r.sized)))) h)
+
+-- the row of a corner stands in the rows of all
+pub row_lent : (blocks pairs adj : List ℕ) (s : ℕ) → Rows blocks pairs adj 576 → s < 192 → Row blocks pairs (take (3 * s + 3 - 3 * s) (drop (3 * s) adj)) s 3
+row_lent blocks pairs adj s r l =
+    let e : 3 ≡ 3 * s + 3 - 3 * s = omega arith in
+    subst (λ (k : ℕ). Row blocks pairs (take k (drop (3 * s) adj)) s 3) e
+    (record { sized = part_length adj (3 * s) 3 (omega (arith, r.sized)); each = each })
+  where
+    each : (q : ℕ) → q < 3 → (i : ℕ) → i < 64 → Shows (Adjacent blocks pairs s (64 * q + i)) (bit i (word (take 3 (drop (3 * s) adj)) q))
+    each q h i b =
+        let d : (3 * s + q) / 3 ≡ s = omega arith in
+        let m : (3 * s + q) % 3 ≡ q = omega arith in
+        let a = r.each (3 * s + q) (omega arith) i b in
+        let a₁ = subst (λ (k : ℕ). Shows (Adjacent blocks pairs k (64 * ((3 * s + q) % 3) + i)) (bit i (word adj (3 * s + q)))) d a in
+        let a₂ = subst (λ (k : ℕ). Shows (Adjacent blocks pairs s (64 * k + i)) (bit i (word adj (3 * s + q)))) m a₁ in
+        subst (λ (k : ℕ). Shows (Adjacent blocks pairs s (64 * q + i)) (bit i k)) (sym (part_word adj (3 * s) 3 q h)) a₂
 
 -- v is near s by word q: a corner of the row, or the first end
-abbrev pub NearBy : List ℕ → Bool → ℕ → ℕ → ℕ → ℕ → Type 0
-NearBy rows facing s first q v = ((q < 3) × (near_bit rows s v ≡ 1) × (64 * q ≤ v) × (v < 64 * q + 64)) ⊎ ((q ≡ 3) × (v ≡ first) × ByRows rows facing first s)
+abbrev pub NearBy : List ℕ → List ℕ → ℕ → ℕ → ℕ → ℕ → Type 0
+NearBy blocks pairs s first q v =
+    ((q < 3) × Adjacent blocks pairs s v × (64 * q ≤ v) × (v < 64 * q + 64)) ⊎ ((q ≡ 3) × (v ≡ first) × (pair_byte pairs first s ≡ 254))
 
 -- v is near s by a word before q
-pub record NearBefore (rows : List ℕ) (facing : Bool) (s first q v : ℕ) : Type 0 where
+pub record NearBefore (blocks pairs : List ℕ) (s first q v : ℕ) : Type 0 where
   pub word' : ℕ
   pub before : word' < q
-  pub near : NearBy rows facing s first word' v
+  pub near : NearBy blocks pairs s first word' v
 
 -- the four words, and the marks of their lowest bits
-module _ (rows : List ℕ) (facing : Bool) (first s q : ℕ) where
-  pub row_word : q < 3 → word rows (3 * s + q) ≡ near_word rows facing first s q
+module _ (pairs row : List ℕ) (first s q : ℕ) where
+  pub row_word : q < 3 → word row q ≡ near_word pairs row first s q
   unfolding near_word
   row_word h = rw (lt-ltb q 3 h)
 
-  first_word : 3 ≤ q → told_bit rows facing first s ≡ near_word rows facing first s q
+  pub first_word : 3 ≤ q → pair_byte pairs first s ≡ 254 → 1 ≡ near_word pairs row first s q
   unfolding near_word
-  first_word h = rw (le-ltb q 3 h)
+  first_word h e = rw (le-ltb q 3 h, e)
 
-  pub corner_word : 3 ≤ q → 192 ≤ first → s < 192 → near_bit rows first s ≡ near_word rows facing first s q
-  corner_word h a b = sym (told_end rows facing first s a b) ∙ first_word h
-
-  pub facing_word : 3 ≤ q → 192 ≤ first → 192 ≤ s → facing ≡ true → 1 ≡ near_word rows facing first s q
-  facing_word h a b e = sym (told_ends rows facing first s a b ∙ ap (λ (f : Bool). cond f 1 0) e) ∙ first_word h
-
-  pub no_word : 3 ≤ q → 192 ≤ first → 192 ≤ s → facing ≡ false → 0 ≡ near_word rows facing first s q
-  no_word h a b e = sym (told_ends rows facing first s a b ∙ ap (λ (f : Bool). cond f 1 0) e) ∙ first_word h
+  pub no_word : 3 ≤ q → (pair_byte pairs first s ≡ 254 → ⊥) → 0 ≡ near_word pairs row first s q
+  unfolding near_word
+  no_word h e = rw (le-ltb q 3 h, ne_eqb (pair_byte pairs first s) 254 e)
 
 pub row_base : (first q : ℕ) → q < 3 → 64 * q ≡ near_base first q
 unfolding near_base
@@ -57,76 +88,73 @@ bit_one : bit 0 1 ≡ 1
 unfolding bit
 bit_one = omega arith
 
--- bit v of row s, by its word
-bit_of : (rows : List ℕ) (s q i v : ℕ) → i < 64 → 64 * q + i ≡ v → near_bit rows s v ≡ bit i (word rows (3 * s + q))
-bit_of rows s q i v l e =
-    let a : v % 64 ≡ i = omega arith in
-    let b : v / 64 ≡ q = omega arith in
-    rw (a, b)
-
 -- a word's bits are those of the marks near s by it
-module _ (rows : List ℕ) (facing : Bool) (s : ℕ) {first q w base : ℕ} (low : w < 2 ^ 64) (a : w ≡ near_word rows facing first s q) (b : base ≡ near_base first q) where
-  pub marked_near : q < 4 → (v : ℕ) → Marked w base v → NearBy rows facing s first q v
-  marked_near l v m = elim (dec_lt q 3) [ yes h ↦ inl (in_row h) | no h ↦ inr (the_first (omega arith)) ]
+module _ {blocks pairs row : List ℕ} {s first : ℕ} (r : Row blocks pairs row s 3) {q w base : ℕ} (low : w < 2 ^ 64) (a : w ≡ near_word pairs row first s q) (b : base ≡ near_base first q) where
+  pub marked_near : q < 4 → (v : ℕ) → Marked w base v → NearBy blocks pairs s first q v
+  marked_near l v m = elim (dec_lt q 3) [ yes h ↦ inl (in_row h) | no h ↦ let f = the_first h (ℕ_discrete (pair_byte pairs first s) 254) in inr (omega arith, f.0, f.1) ]
     where
-      in_row : q < 3 → (q < 3) × (near_bit rows s v ≡ 1) × (64 * q ≤ v) × (v < 64 * q + 64)
+      in_row : q < 3 → (q < 3) × Adjacent blocks pairs s v × (64 * q ≤ v) × (v < 64 * q + 64)
       in_row h =
           let k = row_base first q h in
           let i = bit_low 64 w m.at low m.set in
           let e : 64 * q + m.at ≡ v = omega (arith, m.is) in
-          (h, bit_of rows s q m.at v i e ∙ ap (bit m.at) (row_word rows facing first s q h ∙ sym a) ∙ m.set, omega arith, omega arith)
+          let x : bit m.at (word row q) ≡ 1 = ap (bit m.at) (row_word pairs row first s q h ∙ sym a) ∙ m.set in
+          (h, subst (Adjacent blocks pairs s) e ((r.each q h m.at i).yes' x), omega arith, omega arith)
 
-      the_first : 3 ≤ q → (q ≡ 3) × (v ≡ first) × ByRows rows facing first s
-      the_first h =
-          let t : w ≡ told_bit rows facing first s = a ∙ sym (first_word rows facing first s q h) in
-          let z = bit_low 1 w m.at (omega (arith, told_small rows facing first s)) m.set in
-          let o : w ≡ 0 → ⊥ = λ o. omega (arith, m.set, ap (bit m.at) o, bit_zero m.at) in
-          (omega arith, omega (arith, m.is, first_base first q h), omega (arith, told_small rows facing first s, o))
+      the_first : (q < 3 → ⊥) → Dec (pair_byte pairs first s ≡ 254) → (v ≡ first) × (pair_byte pairs first s ≡ 254)
+      the_first h (yes e) =
+          let o : w ≡ 1 = a ∙ sym (first_word pairs row first s q (omega arith) e) in
+          let z = bit_low 1 w m.at (omega arith) m.set in
+          (omega (arith, m.is, first_base first q (omega arith)), e)
+      the_first h (no e) =
+          let o : w ≡ 0 = a ∙ sym (no_word pairs row first s q (omega arith) e) in
+          absurd (omega (arith, m.set, ap (bit m.at) o, bit_zero m.at))
 
-  pub near_marked : (v : ℕ) → NearBy rows facing s first q v → Marked w base v
+  pub near_marked : (v : ℕ) → NearBy blocks pairs s first q v → Marked w base v
   near_marked v (inl n) =
       let k = row_base first q n.0 in
-      let e : 64 * q + v % 64 ≡ v = omega (arith, n.2, n.3) in
-      record { at = v % 64; is = omega arith; set = ap (bit (v % 64)) (a ∙ sym (row_word rows facing first s q n.0)) ∙ sym (bit_of rows s q (v % 64) v (omega arith) e) ∙ n.1 }
+      let e : 64 * q + (v - 64 * q) ≡ v = omega (arith, n.2) in
+      let x = (r.each q n.0 (v - 64 * q) (omega (arith, n.2, n.3))).no' (subst (Adjacent blocks pairs s) (sym e) n.1) in
+      record { at = v - 64 * q; is = omega (arith, n.2); set = ap (bit (v - 64 * q)) (a ∙ sym (row_word pairs row first s q n.0)) ∙ x }
   near_marked v (inr n) =
       let h : 3 ≤ q = omega (arith, n.0) in
-      record { at = 0; is = omega (arith, n.1, first_base first q h); set = ap (bit 0) (a ∙ sym (first_word rows facing first s q h) ∙ n.2) ∙ bit_one }
+      record { at = 0; is = omega (arith, n.1, first_base first q h); set = ap (bit 0) (a ∙ sym (first_word pairs row first s q h n.2)) ∙ bit_one }
 
 -- the marks near s are relaxed word by word
-module _ {bound most : ℕ → ℕ} {rows : List ℕ} {facing : Bool} {s first : ℕ} where
-  pub near_none : {W S K T : List ℕ} {u n : ℕ} → Parted bound W S K T u n → Passed bound most (NearBefore rows facing s first 0) W S K W S K T u n
+module _ {bound most : ℕ → ℕ} {blocks pairs : List ℕ} {s first : ℕ} where
+  pub near_none : {W S K T : List ℕ} {u n : ℕ} → Parted bound W S K T u n → Passed bound most (NearBefore blocks pairs s first 0) W S K W S K T u n
   near_none p = passed_none p (λ v o m. omega (arith, m.before))
 
-  module _ {W S K W' S' K' T' : List ℕ} {u n q : ℕ} (x : Passed bound most (NearBefore rows facing s first q) W S K W' S' K' T' u n) where
-    pub near_next : {w base : ℕ} {W'' S'' K'' T'' : List ℕ} {u' : ℕ} → ((v : ℕ) → Marked w base v → NearBy rows facing s first q v) → ((v : ℕ) → NearBy rows facing s first q v → Marked w base v)
-        → Passed bound most (Marked w base) W' S' K' W'' S'' K'' T'' u' n → Passed bound most (NearBefore rows facing s first (q + 1)) W S K W'' S'' K'' T'' u' n
+  module _ {W S K W' S' K' T' : List ℕ} {u n q : ℕ} (x : Passed bound most (NearBefore blocks pairs s first q) W S K W' S' K' T' u n) where
+    pub near_next : {w base : ℕ} {W'' S'' K'' T'' : List ℕ} {u' : ℕ} → ((v : ℕ) → Marked w base v → NearBy blocks pairs s first q v) → ((v : ℕ) → NearBy blocks pairs s first q v → Marked w base v)
+        → Passed bound most (Marked w base) W' S' K' W'' S'' K'' T'' u' n → Passed bound most (NearBefore blocks pairs s first (q + 1)) W S K W'' S'' K'' T'' u' n
     near_next {w} {base} f g y = passed_under to (λ v o m. from v m (dec_lt m.word' q)) (passed_both x y)
       where
-        to : (v : ℕ) → NearBefore rows facing s first q v ⊎ Marked w base v → NearBefore rows facing s first (q + 1) v
+        to : (v : ℕ) → NearBefore blocks pairs s first q v ⊎ Marked w base v → NearBefore blocks pairs s first (q + 1) v
         to v (inl m) = record { word' = m.word'; before = omega (arith, m.before); near = m.near }
         to v (inr m) = record { word' = q; before = omega arith; near = f v m }
 
-        from : (v : ℕ) → (m : NearBefore rows facing s first (q + 1) v) → Dec (m.word' < q) → NearBefore rows facing s first q v ⊎ Marked w base v
+        from : (v : ℕ) → (m : NearBefore blocks pairs s first (q + 1) v) → Dec (m.word' < q) → NearBefore blocks pairs s first q v ⊎ Marked w base v
         from v m (yes h) = inl (record { word' = m.word'; before = h; near = m.near })
         from v m (no h) =
             let e : m.word' ≡ q = omega (arith, m.before) in
-            inr (g v (subst (λ (k : ℕ). NearBy rows facing s first k v) e m.near))
+            inr (g v (subst (λ (k : ℕ). NearBy blocks pairs s first k v) e m.near))
 
     -- all four words are done
-    pub near_all : {blocks : List ℕ} → 4 ≤ q → s < 240 → (first ≡ s → ⊥) → Tidy blocks rows → Bends blocks first W S n → Passed bound most (Seen rows facing s) W S K W' S' K' T' u n
-    near_all {blocks} l b ne t d = passed_under (λ v m. to v m.near) (λ v o e. from v e (d.only v o)) x
+    pub near_all : 4 ≤ q → (first ≡ s → ⊥) → Bends blocks first W S n → Passed bound most (Seen pairs s) W S K W' S' K' T' u n
+    near_all l ne d = passed_under (λ v m. to v m.near) (λ v o e. from v e (d.only v o)) x
       where
-        to : {k : ℕ} (v : ℕ) → NearBy rows facing s first k v → Seen rows facing s v
-        to v (inl m) = let h : v < 192 = omega (arith, m.0, m.3) in ((t.each s v b h m.1).1, told_corner rows facing v s h ∙ m.1)
-        to v (inr m) = subst (Seen rows facing s) (sym m.1) (ne, m.2)
+        to : {k : ℕ} (v : ℕ) → NearBy blocks pairs s first k v → Seen pairs s v
+        to v (inl m) = (m.1.differ, m.1.clear)
+        to v (inr m) = subst (Seen pairs s) (sym m.1) (ne, m.2)
 
-        from : (v : ℕ) → Seen rows facing s v → Bend blocks first v → NearBefore rows facing s first q v
-        from v e (inl f) = record { word' = 3; before = omega arith; near = inr (omega arith, f, ap (λ (k : ℕ). told_bit rows facing k s) (sym f) ∙ e.1) }
+        from : (v : ℕ) → Seen pairs s v → Bend blocks first v → NearBefore blocks pairs s first q v
+        from v e (inl f) = record { word' = 3; before = omega arith; near = inr (omega arith, f, ap (λ (k : ℕ). pair_byte pairs k s) (sym f) ∙ e.1) }
         from v e (inr c) =
             let h = corner_below blocks v c in
-            record { word' = v / 64; before = omega arith; near = inl (omega arith, sym (told_corner rows facing v s h) ∙ e.1, omega arith, omega arith) }
+            record { word' = v / 64; before = omega arith; near = inl (omega arith, record { present = c; differ = e.0; clear = e.1 }, omega arith, omega arith) }
 
 -- what word q asks of the list
-pub near_here : {blocks rows W S : List ℕ} (facing : Bool) {s first n q : ℕ} → Tidy blocks rows → Bends blocks first W S n → s < 240 → first < 240 → (v : ℕ) → NearBy rows facing s first q v → (v < 240) × Here W S v
-near_here facing {s = s} t d b l v (inl m) = let h : v < 192 = omega (arith, m.0, m.3) in (omega arith, d.all v (inr (t.each s v b h m.1).0))
-near_here facing t d b l v (inr m) = (omega (arith, m.1), d.all v (inl m.1))
+pub near_here : {blocks pairs W S : List ℕ} {s first n q : ℕ} → Bends blocks first W S n → first < 240 → (v : ℕ) → NearBy blocks pairs s first q v → (v < 240) × Here W S v
+near_here {blocks} d l v (inl m) = (omega (arith, corner_below blocks v m.1.present), d.all v (inr m.1.present))
+near_here d l v (inr m) = (omega (arith, m.1), d.all v (inl m.1))

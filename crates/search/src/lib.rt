@@ -7,7 +7,7 @@ ghost use Rattle.geometry.specs.Words.{point_of, word, place_at};
 ghost use Rattle.tables.specs.Tables.{stored};
 ghost use Rattle.search.specs.inner.LowerBound.{projection, at_least, lower_bound};
 ghost use Rattle.search.specs.inner.Keys.{Listed, Looked};
-ghost use Rattle.search.specs.inner.Parts.{Places, Here, Corners, Ranked, Bends, Parted, Exchanged, Passed, way_by, via, ahead, Marked, Tidy, near_word, near_base, Seen};
+ghost use Rattle.search.specs.inner.Parts.{Places, Here, Corners, Ranked, Bends, Parted, Exchanged, Passed, way_by, via, ahead, Marked, Row, near_word, near_base, Seen};
 
 use geometry::Place;
 
@@ -193,7 +193,7 @@ fn relax_mark(
 }
 
 // Relaxes the marks of one word, whose lowest bit is that of mark base.
-fn relax_word(
+pub fn relax_word(
     places: &[u16],
     by: Settled,
     w: u64,
@@ -218,25 +218,34 @@ fn relax_word(
     low
 }
 
-// The word q of the marks near a settled mark: the corners in its row, three words, and then one for the first end alone.
-fn near_word(rows: &[u64], facing: bool, first: usize, mark: usize, q: usize) -> u64
-    requires { (length rows.now ≡ 720) × (192 ≤ first) × (first < 240) × (mark < 240) }
-    ensures { result ≡ near_word rows.now facing first mark q }
+// The corners near mark v, in three words.
+pub fn near_row(blocks: &[u16], pairs: &[u8], v: usize, row: &mut [u64])
+    requires { (length blocks.now ≡ 408) × (length pairs.now ≡ 28680) × (v < 240) × (length row.old ≡ 3) }
+    ensures { Row blocks.now pairs.now row.new v 3 }
+{
+    let mut k = 0;
+    while k < 3 {
+        row[k] = adjacency::adjacent_word(blocks, pairs, v, k);
+        k += 1;
+    }
+}
+
+// The word q of the marks near a settled mark: the corners in the row, three words, and then one for the first end alone.
+fn near_word(pairs: &[u8], row: &[u64], first: usize, mark: usize, q: usize) -> u64
+    requires { (length pairs.now ≡ 28680) × (length row.now ≡ 3) × (first < 240) × (mark < 240) × (first ≡ mark → ⊥) }
+    ensures { result ≡ near_word pairs.now row.now first mark q }
 {
     if q < 3 {
-        return rows[3 * mark + q];
+        return row[q];
     }
-    if mark < 192 {
-        return bits::bit_at(rows[3 * first + mark / 64], (mark % 64) as u32);
-    }
-    if facing {
+    if tables::pair_byte(pairs, first, mark) == 254 {
         return 1;
     }
     0
 }
 
 // The mark of its lowest bit.
-fn near_base(first: usize, q: usize) -> usize
+pub fn near_base(first: usize, q: usize) -> usize
     ensures { result ≡ near_base first q }
 {
     if q < 3 {
@@ -245,12 +254,12 @@ fn near_base(first: usize, q: usize) -> usize
     first
 }
 
-// Relaxes every waiting mark that has a clear straight to a settled one, by the rows of near corners and what the ends see of each other.
+// Relaxes every waiting mark that has a clear straight to a settled one, whose near corners are in the row.
 pub fn relax(
     blocks: &[u16],
     places: &[u16],
-    rows: &[u64],
-    facing: bool,
+    pairs: &[u8],
+    row: &[u64],
     by: Settled,
     first: usize,
     u: usize,
@@ -259,15 +268,15 @@ pub fn relax(
     key: &mut [u32],
     sums: &mut [u32],
 ) -> usize
-    requires places_len { (length places.now ≡ 480) × (Tidy blocks.now rows.now) × (by.key ≤ 4294967293) }
-    requires le_first { (192 ≤ first) × (first < 240) × (by.mark < 240) × (first ≡ by.mark → ⊥) }
+    requires places_len { (length places.now ≡ 480) × (length pairs.now ≡ 28680) × (by.key ≤ 4294967293) × (Row blocks.now pairs.now row.now by.mark 3) }
+    requires first_bound { (first < 240) × (by.mark < 240) × (first ≡ by.mark → ⊥) }
     requires parted { (Parted (ahead places.now by) waiting.old spot.old key.old sums.old u by.left) × (Bends blocks.now first waiting.old spot.old by.left) }
-    ensures { Passed (ahead places.now by) (via places.now by) (Seen rows.now facing by.mark) waiting.old spot.old key.old waiting.new spot.new key.new sums.new result by.left }
+    ensures { Passed (ahead places.now by) (via places.now by) (Seen pairs.now by.mark) waiting.old spot.old key.old waiting.new spot.new key.new sums.new result by.left }
 {
     let mut low = u;
     let mut q = 0;
     while q < 4 {
-        let w = near_word(rows, facing, first, by.mark, q);
+        let w = near_word(pairs, row, first, by.mark, q);
         let base = near_base(first, q);
         low = relax_word(places, by, w, base, low, waiting, spot, key, sums);
         q += 1;

@@ -3,11 +3,11 @@
 
 ghost use Rattle.std.specs.Prelude.{◌≡◌, ◌<◌, length};
 ghost use Rattle.tables.specs.Tables.{stored, first_end, second_end};
-ghost use Rattle.tables.specs.inner.Fit.{Fit};
-ghost use Rattle.search.specs.Network.{graph};
+ghost use Rattle.adjacency.specs.inner.Adjacent.{Rows};
+ghost use Rattle.search.specs.Network.{ByBytes, graph};
 ghost use Rattle.search.specs.inner.LowerBound.{lower_bound};
-ghost use Rattle.search.specs.inner.Keys.{unreached, Filled, Searched};
-ghost use Rattle.search.specs.inner.Parts.{Places, Ranked, Bends, Parted, Tidy, ByRows};
+ghost use Rattle.search.specs.inner.Keys.{unreached, Filled, Searchable, Searched};
+ghost use Rattle.search.specs.inner.Parts.{Places, Ranked, Bends, Parted};
 ghost use Rattle.settling.specs.inner.Turns.{EndSettled, Due, Turned};
 
 use search::Settled;
@@ -17,8 +17,7 @@ fn settle_end(
     blocks: &[u16],
     runs: &[u16],
     places: &[u16],
-    rows: &[u64],
-    facing: bool,
+    pairs: &[u8],
     m: usize,
     n: usize,
     waiting: &mut [u16],
@@ -26,13 +25,15 @@ fn settle_end(
     key: &mut [u32],
     sums: &mut [u32],
 ) -> usize
-    requires fit { (Fit (stored blocks.now runs.now)) × (Places (stored blocks.now runs.now) places.now 240) × (Tidy blocks.now rows.now) × (m < 24) }
+    requires searchable { (Searchable (stored blocks.now runs.now) pairs.now) × (Places (stored blocks.now runs.now) places.now 240) × (m < 24) }
     requires ranked { (Ranked blocks.now (first_end m) waiting.old spot.old n) × (Filled key.old 240 unreached) × (length sums.old ≡ 194) }
-    ensures { EndSettled (stored blocks.now runs.now) (ByRows rows.now facing) m waiting.old spot.old key.old waiting.new spot.new key.new sums.new result n }
+    ensures { EndSettled (stored blocks.now runs.now) (ByBytes pairs.now) m waiting.old spot.old key.old waiting.new spot.new key.new sums.new result n }
 {
     let first = 192 + 2 * m;
     let second = 193 + 2 * m;
     key[second] = 0;
+    let mut row = [0u64; 3];
+    search::near_row(blocks, pairs, second, &mut row);
     let by = Settled {
         mark: second,
         place: search::listed_place(places, second),
@@ -42,7 +43,7 @@ fn settle_end(
         goal: search::listed_place(places, first),
     };
     search::relax(
-        blocks, places, rows, facing, by, first, n, waiting, spot, key, sums,
+        blocks, places, pairs, &row, by, first, n, waiting, spot, key, sums,
     )
 }
 
@@ -51,8 +52,8 @@ fn settle_mark(
     blocks: &[u16],
     runs: &[u16],
     places: &[u16],
-    rows: &[u64],
-    facing: bool,
+    pairs: &[u8],
+    adj: &[u64],
     m: usize,
     at: usize,
     u: usize,
@@ -62,9 +63,9 @@ fn settle_mark(
     key: &mut [u32],
     sums: &mut [u32],
 ) -> usize
-    requires fit { (Fit (stored blocks.now runs.now)) × (Places (stored blocks.now runs.now) places.now 240) × (Tidy blocks.now rows.now) × (m < 24) }
+    requires searchable { (Searchable (stored blocks.now runs.now) pairs.now) × (Places (stored blocks.now runs.now) places.now 240) × (Rows blocks.now pairs.now adj.now 576) × (m < 24) }
     requires parted { (Parted (lower_bound (stored blocks.now runs.now) (first_end m)) waiting.old spot.old key.old sums.old u n) × (Bends blocks.now (first_end m) waiting.old spot.old n) × (Due waiting.old key.old u n at) }
-    ensures { Turned (stored blocks.now runs.now) (ByRows rows.now facing) m waiting.old spot.old key.old waiting.new spot.new key.new sums.new at n result }
+    ensures { Turned (stored blocks.now runs.now) (ByBytes pairs.now) m waiting.old spot.old key.old waiting.new spot.new key.new sums.new at n result }
 {
     let first = 192 + 2 * m;
     let s = waiting[at] as usize;
@@ -79,25 +80,37 @@ fn settle_mark(
         figure: tables::figure_of(runs),
         goal: search::listed_place(places, first),
     };
+    let from = 3 * s;
+    let to = from + 3;
     search::relax(
-        blocks, places, rows, facing, by, first, u, waiting, spot, key, sums,
+        blocks,
+        places,
+        pairs,
+        &adj[from..to],
+        by,
+        first,
+        u,
+        waiting,
+        spot,
+        key,
+        sums,
     )
 }
 
-// Finds the keys for run m, of which none is reached at first, by the rows of near corners and whether its ends see each other; answers whether there is a way.
+// Finds the keys for run m, of which none is reached at first, by the rows of near corners; answers whether there is a way.
 // The list is kept in three parts: the first u marks are not reached, those before n are waiting, the others are settled.
 pub fn settle(
     blocks: &[u16],
     runs: &[u16],
     places: &[u16],
-    rows: &[u64],
-    facing: bool,
+    pairs: &[u8],
+    adj: &[u64],
     m: usize,
     key: &mut [u32],
 ) -> bool
-    requires fit { (Fit (stored blocks.now runs.now)) × (Places (stored blocks.now runs.now) places.now 240) × (Tidy blocks.now rows.now) }
+    requires searchable { (Searchable (stored blocks.now runs.now) pairs.now) × (Places (stored blocks.now runs.now) places.now 240) × (Rows blocks.now pairs.now adj.now 576) }
     requires m_bound { (m < 24) × (Filled key.old 240 unreached) }
-    ensures { Searched (graph (stored blocks.now runs.now) (ByRows rows.now facing)) (first_end m) (second_end m) key.new result }
+    ensures { Searched (graph (stored blocks.now runs.now) (ByBytes pairs.now)) (first_end m) (second_end m) key.new result }
 {
     let first = 192 + 2 * m;
     let mut waiting = [0u16; 194];
@@ -108,8 +121,7 @@ pub fn settle(
         blocks,
         runs,
         places,
-        rows,
-        facing,
+        pairs,
         m,
         n,
         &mut waiting,
@@ -129,8 +141,8 @@ pub fn settle(
             blocks,
             runs,
             places,
-            rows,
-            facing,
+            pairs,
+            adj,
             m,
             at,
             u,

@@ -1,9 +1,11 @@
+use mathlib.Core.Path.{◌≡◌}
 use Prim.Native.Nat.{◌-◌, ◌≤◌}
-use Rattle.adjacency.specs.inner.Adjacent.{Said, Rows}
+use Rattle.tables.proofs.Pairs.{tri}
+use Rattle.adjacency.specs.inner.Adjacent.{Entered}
 use Rattle.adjacency.proofs.fill_rows.Given as goal
 
-abbrev pub invariant-loop-k : goal.invariant-loop-k
-invariant-loop-k l = (l.k ≤ 720) × Rows l.blocks (Said l.pairs) l.adj l.k
+abbrev pub invariant-loop-j : goal.invariant-loop-j
+invariant-loop-j l = (l.start ≡ tri l.j) × (l.j ≤ 192) × Entered l.blocks l.pairs l.adj l.start
 
-abbrev pub decreases-loop-k : goal.decreases-loop-k
-decreases-loop-k l = 720 - l.k
+abbrev pub decreases-loop-j : goal.decreases-loop-j
+decreases-loop-j l = 192 - l.j

@@ -1,6 +1,6 @@
 -- The loop keeps: the bits of w say which of the codes from 64 q + k on have bit b clear.
 use native.Mathlib.Omega.{arith}
-use Rattle.adjacency.proofs.Words.{part_none, part_small, part_next}
+use Rattle.mark_rows.proofs.Words.{part_none, part_small, part_next}
 use Rattle.corner_words.proofs.Marking.{left_whole}
 use Rattle.corner_words.proofs.left_word.Goals as goal
 

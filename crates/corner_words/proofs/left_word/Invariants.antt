@@ -1,7 +1,7 @@
 use mathlib.Core.Path.{◌≡◌}
 use Rattle.geometry.specs.Words.{word}
 use Rattle.bits.specs.inner.Bits.{bit}
-use Rattle.adjacency.proofs.Words.{Part}
+use Rattle.mark_rows.proofs.Words.{Part}
 use Rattle.corner_words.proofs.left_word.Given as goal
 
 abbrev pub invariant-loop-k : goal.invariant-loop-k

@@ -11,11 +11,11 @@ use Rattle.routing.proofs.route.Goals as goal
 pub returns-then-runs-m-eq0 : goal.returns-then-runs-m-eq0
 returns-then-runs-m-eq0 c = absent_record _ _ _ _ (cleared _ c.requires.fit.3 c.fill32.ensures) c.if-runs-m-eq0.true
 
-pub search_run-requires : goal.search_run-requires
-search_run-requires c = record { searchable = (record { fit = c.requires.fit.0; sized = c.requires.fit.1 }, c.requires.rows.1, c.requires.rows.0); m_bound = (c.requires.fit.2, filled_all 240 unreached) }
+pub settle-requires : goal.settle-requires
+settle-requires c = record { searchable = (record { fit = c.requires.fit.0; sized = c.requires.fit.1 }, c.requires.rows.1, c.requires.rows.0); m_bound = (c.requires.fit.2, filled_all 240 unreached) }
 
 pub walk-n-requires : goal.walk-n-requires
-walk-n-requires c = record { searchable = record { fit = c.requires.fit.0; sized = c.requires.fit.1 }; m_bound = (c.requires.fit.2, c.search_run.ensures.way c.if-search_run.true, (cleared _ c.requires.fit.3 c.fill32.ensures)) }
+walk-n-requires c = record { searchable = record { fit = c.requires.fit.0; sized = c.requires.fit.1 }; m_bound = (c.requires.fit.2, c.settle.ensures.way c.if-settle.true, (cleared _ c.requires.fit.3 c.fill32.ensures)) }
 
 pub bounds-part-1 : goal.bounds-part-1
 bounds-part-1 c = simp length-set (omega arith)
@@ -23,11 +23,11 @@ bounds-part-1 c = simp length-set (omega arith)
 pub bounds-part-2 : goal.bounds-part-2
 bounds-part-2 c = simp length-set (omega arith)
 
-pub shape_of-part-then-search_run : goal.shape_of-part-then-search_run
-shape_of-part-then-search_run c = simp length-set (omega arith)
+pub shape_of-part-then-settle : goal.shape_of-part-then-settle
+shape_of-part-then-settle c = simp length-set (omega arith)
 
-pub returns-then-search_run : goal.returns-then-search_run
-returns-then-search_run c = found_record _ _ _ _ _ _ c.requires.fit.0 c.requires.fit.2 c.if-runs-m-eq0.false c.walk-n.ensures
+pub returns-then-settle : goal.returns-then-settle
+returns-then-settle c = found_record _ _ _ _ _ _ c.requires.fit.0 c.requires.fit.2 c.if-runs-m-eq0.false c.walk-n.ensures
 
-pub returns-else-search_run : goal.returns-else-search_run
-returns-else-search_run c = no_way_record _ _ _ _ (cleared _ c.requires.fit.3 c.fill32.ensures) c.requires.fit.0 c.requires.fit.2 c.if-runs-m-eq0.false (c.search_run.ensures.no_way c.if-search_run.false)
+pub returns-else-settle : goal.returns-else-settle
+returns-else-settle c = no_way_record _ _ _ _ (cleared _ c.requires.fit.3 c.fill32.ensures) c.requires.fit.0 c.requires.fit.2 c.if-runs-m-eq0.false (c.settle.ensures.no_way c.if-settle.false)

@@ -1,6 +1,6 @@
 use Rattle.search.specs.inner.Keys.{unreached}
 use Rattle.search.proofs.Steps.{filled_all}
-use Rattle.search.proofs.Told.{rows_tidy}
+use Rattle.row_search.proofs.Told.{rows_tidy}
 use Rattle.run_prices.proofs.Pricing.{priced_absent, priced_shut, priced_found, searched_places}
 use Rattle.run_prices.proofs.run_price.Goals as goal
 

@@ -1,15 +1,12 @@
-use mathlib.Core.Path.{◌∙◌}
-use Rattle.search.proofs.Relaxing.{row_word, corner_word, facing_word, no_word}
+use mathlib.Core.Path.{sym, ◌∙◌}
+use Rattle.search.proofs.Relaxing.{row_word, first_word, no_word}
 use Rattle.search.proofs.near_word.Goals as goal
 
 pub returns-then-q-lt3 : goal.returns-then-q-lt3
 returns-then-q-lt3 c = search row_word
 
-pub returns-then-mark-lt192 : goal.returns-then-mark-lt192
-returns-then-mark-lt192 c = c.bit_at.ensures ∙ search corner_word
-
-pub returns-then-facing : goal.returns-then-facing
-returns-then-facing c = search facing_word
+pub returns-then-pair_byte : goal.returns-then-pair_byte
+returns-then-pair_byte c = first_word _ _ _ _ _ c.if-q-lt3.false (sym c.pair_byte.ensures ∙ c.if-pair_byte.true)
 
 pub returns : goal.returns
-returns c = search no_word
+returns c = no_word _ _ _ _ _ c.if-q-lt3.false (λ e. c.if-pair_byte.false (c.pair_byte.ensures ∙ e))

@@ -9,7 +9,7 @@ pub loop-q-init : goal.loop-q-init
 loop-q-init c = (omega arith, near_none c.requires.parted.0)
 
 pub near_word-w-requires : goal.near_word-w-requires
-near_word-w-requires c = (c.requires.places_len.1.sized, c.requires.le_first.0, c.requires.le_first.1, c.requires.le_first.2)
+near_word-w-requires c = (c.requires.places_len.1, c.requires.places_len.3.sized, c.requires.first_bound.0, c.requires.first_bound.1, c.requires.first_bound.2)
 
 pub relax_word-low-requires : goal.relax_word-low-requires
 relax_word-low-requires c =
@@ -19,17 +19,17 @@ relax_word-low-requires c =
       parted = (
         x.parted,
         λ v m.
-            let n = marked_near c.args.rows.now c.args.facing c.args.by.mark (omega (arith, c.near_word-w.type_inv)) c.near_word-w.ensures c.near_base-base.ensures c.loop-q-test.true v m in
-            let h = near_here c.args.facing c.requires.places_len.1 c.requires.parted.1 c.requires.le_first.2 c.requires.le_first.1 v n in
+            let n = marked_near c.requires.places_len.3 (omega (arith, c.near_word-w.type_inv)) c.near_word-w.ensures c.near_base-base.ensures c.loop-q-test.true v m in
+            let h = near_here c.requires.parted.1 c.requires.first_bound.0 v n in
             (h.0, x.sorted.here v h.1),
       );
     }
 
 pub loop-q-preserved : goal.loop-q-preserved
 loop-q-preserved c =
-    let r = c.args in
+    let r = c.requires.places_len.3 in
     let f : c.near_word-w.result < 2 ^ 64 = omega (arith, c.near_word-w.type_inv) in
-    (omega arith, near_next c.loop-q.invariant.1 (marked_near r.rows.now r.facing r.by.mark f c.near_word-w.ensures c.near_base-base.ensures c.loop-q-test.true) (near_marked r.rows.now r.facing r.by.mark f c.near_word-w.ensures c.near_base-base.ensures) c.relax_word-low.ensures)
+    (omega arith, near_next c.loop-q.invariant.1 (marked_near r f c.near_word-w.ensures c.near_base-base.ensures c.loop-q-test.true) (near_marked r f c.near_word-w.ensures c.near_base-base.ensures) c.relax_word-low.ensures)
 
 pub shape_of-waiting : goal.shape_of-waiting
 shape_of-waiting c = c.loop-q.invariant.1.parted.sized ∙ sym c.requires.parted.0.sized
@@ -44,4 +44,4 @@ pub shape_of-sums : goal.shape_of-sums
 shape_of-sums c = c.loop-q.invariant.1.parted.summed ∙ sym c.requires.parted.0.summed
 
 pub returns : goal.returns
-returns c = near_all c.loop-q.invariant.1 c.loop-q-test.false c.requires.le_first.2 c.requires.le_first.3 c.requires.places_len.1 c.requires.parted.1
+returns c = near_all c.loop-q.invariant.1 c.loop-q-test.false c.requires.first_bound.2 c.requires.parted.1

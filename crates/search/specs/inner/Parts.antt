@@ -1,12 +1,13 @@
 -- The marks of a search in one list of three parts, and what relaxing by a settled mark makes of it.
-use Rattle.std.specs.Prelude.{◌≡◌, ◌⊎◌, Bool, true, cond, List, ℕ, ◌+◌, ◌*◌, ◌≤◌, ◌<◌, ltb, length}
+use Rattle.std.specs.Prelude.{◌≡◌, ◌⊎◌, true, cond, List, ℕ, ◌+◌, ◌*◌, ◌≤◌, ◌<◌, ltb, eqb, length}
 use Rattle.geometry.specs.Words.{Point, point_of, word, place_at}
 use Rattle.lengths.specs.Length.{length_of}
 use Rattle.lengths.specs.Charge.{charge}
 use Rattle.bits.specs.inner.Bits.{bit}
-use Rattle.tables.specs.Tables.{Records, is_corner, place_of}
-use Rattle.adjacency.specs.inner.Adjacent.{near_bit}
+use Rattle.tables.specs.Tables.{Records, is_corner, place_of, pair_byte}
+use Rattle.adjacency.specs.inner.Adjacent.{Adjacent, Shows}
 use Rattle.heaps.specs.inner.Marks.{Swapped}
+use Rattle.search.specs.Network.{ByBytes}
 use Rattle.search.specs.inner.LowerBound.{at_least}
 use Rattle.search.specs.inner.Keys.{unreached, Open}
 use Rattle.search.specs.declared.Settled.{Settled}
@@ -105,27 +106,19 @@ pub record Marked (w base v : ℕ) : Type 0 where
   pub is : base + at ≡ v
   pub set : bit at w ≡ 1
 
--- 1 where the rows say that the straight from v to s is clear: of a corner v by the row of s, of an end by its own row; what two ends see of each other is told apart
-unfoldable pub told_bit : List ℕ → Bool → ℕ → ℕ → ℕ
-told_bit rows facing v s = cond (ltb v 192) (near_bit rows s v) (cond (ltb s 192) (near_bit rows v s) (cond facing 1 0))
+-- the first n words of the row say which corners are near v
+pub record Row (blocks pairs row : List ℕ) (v n : ℕ) : Type 0 where
+  pub sized : length row ≡ 3
+  pub each : (q : ℕ) → q < n → (i : ℕ) → i < 64 → Shows (Adjacent blocks pairs v (64 * q + i)) (bit i (word row q))
 
--- the straight between two marks is clear, as the rows say
-abbrev pub ByRows : List ℕ → Bool → ℕ → ℕ → Type 0
-ByRows rows facing v s = told_bit rows facing v s ≡ 1
-
--- every set bit of a row is that of a present corner, other than the row's own mark
-pub record Tidy (blocks rows : List ℕ) : Type 0 where
-  pub sized : length rows ≡ 720
-  pub each : (v u : ℕ) → v < 240 → u < 192 → near_bit rows v u ≡ 1 → (is_corner blocks u ≡ true) × (u ≡ v → ⊥)
-
--- the word q of the marks near s: three of its row, and then one with the first end alone
-unfoldable pub near_word : List ℕ → Bool → ℕ → ℕ → ℕ → ℕ
-near_word rows facing first s q = cond (ltb q 3) (word rows (3 * s + q)) (told_bit rows facing first s)
+-- the word q of the marks near s: three of the row, and then one with the first end alone
+unfoldable pub near_word : List ℕ → List ℕ → ℕ → ℕ → ℕ → ℕ
+near_word pairs row first s q = cond (ltb q 3) (word row q) (cond (eqb (pair_byte pairs first s) 254) 1 0)
 
 -- the mark of its lowest bit
 unfoldable pub near_base : ℕ → ℕ → ℕ
 near_base first q = cond (ltb q 3) (64 * q) first
 
 -- v has a clear straight to s
-abbrev pub Seen : List ℕ → Bool → ℕ → ℕ → Type 0
-Seen rows facing s v = (v ≡ s → ⊥) × ByRows rows facing v s
+abbrev pub Seen : List ℕ → ℕ → ℕ → Type 0
+Seen pairs s v = (v ≡ s → ⊥) × ByBytes pairs v s

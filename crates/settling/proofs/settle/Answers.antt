@@ -11,7 +11,7 @@ pub slice_bounds-list_bends-end-2 : goal.slice_bounds-list_bends-end-2
 slice_bounds-list_bends-end-2 c = refl
 
 pub list_bends-n-requires : goal.list_bends-n-requires
-list_bends-n-requires c = (c.requires.fit.0.blocks.sized, refl, refl, omega arith, omega (arith, c.requires.m_bound.0))
+list_bends-n-requires c = (c.requires.searchable.0.fit.blocks.sized, refl, refl, omega arith, omega (arith, c.requires.m_bound.0))
 
 pub slice_bounds-settle_end-end : goal.slice_bounds-settle_end-end
 slice_bounds-settle_end-end c = sym c.list_bends-n.ensures.sized
@@ -23,10 +23,10 @@ pub slice_bounds-settle_end-end-3 : goal.slice_bounds-settle_end-end-3
 slice_bounds-settle_end-end-3 c = refl
 
 pub settle_end-u-requires : goal.settle_end-u-requires
-settle_end-u-requires c = record { fit = (c.requires.fit.0, c.requires.fit.1, c.requires.fit.2, c.requires.m_bound.0); ranked = (c.list_bends-n.ensures, c.requires.m_bound.1, refl) }
+settle_end-u-requires c = record { searchable = (c.requires.searchable.0, c.requires.searchable.1, c.requires.m_bound.0); ranked = (c.list_bends-n.ensures, c.requires.m_bound.1, refl) }
 
 pub loop-n-init : goal.loop-n-init
-loop-n-init c = state_first c.requires.fit.0 c.requires.m_bound.0 c.list_bends-n.ensures c.requires.m_bound.1 c.settle_end-u.ensures
+loop-n-init c = state_first c.requires.searchable.0.fit c.requires.m_bound.0 c.list_bends-n.ensures c.requires.m_bound.1 c.settle_end-u.ensures
 
 pub slice_bounds-least_sum-end : goal.slice_bounds-least_sum-end
 slice_bounds-least_sum-end c = sym c.loop-n.invariant.parted.summed
@@ -70,7 +70,7 @@ slice_bounds-settle_mark-end-in-loop-n-2 c = sym c.loop-n.invariant.parted.summe
 pub settle_mark-u-requires : goal.settle_mark-u-requires
 settle_mark-u-requires c =
     let x = c.loop-n.invariant in
-    record { fit = (c.requires.fit.0, c.requires.fit.1, c.requires.fit.2, c.requires.m_bound.0); parted = (x.parted, bends x, settled_due x c.least_sum-at.ensures c.if-at-n.false c.if-key-first.false) }
+    record { searchable = (c.requires.searchable.0, c.requires.searchable.1, c.requires.searchable.2, c.requires.m_bound.0); parted = (x.parted, bends x, settled_due x c.least_sum-at.ensures c.if-at-n.false c.if-key-first.false) }
 
 pub overflow_sub-n : goal.overflow_sub-n
 overflow_sub-n c = omega (arith, c.if-at-n.false)

@@ -13,11 +13,11 @@ use Rattle.geometry.specs.Words.{word}
 use Rattle.bits.specs.inner.Bits.{bit}
 use Rattle.bits.proofs.Counting.{bit_small}
 use Rattle.tables.specs.Tables.{Records, is_corner, first_end, second_end}
-use Rattle.adjacency.specs.inner.Adjacent.{Adjacent, Shows, Rows, near_bit}
-use Rattle.adjacency.proofs.Words.{by_marks}
+use Rattle.mark_rows.specs.inner.Adjacent.{Adjacent, Shows, Rows, near_bit}
+use Rattle.mark_rows.proofs.Words.{by_marks}
 use Rattle.search.specs.Network.{graph}
 use Rattle.search.specs.inner.Keys.{Vertex, Attained, Keyed, Searched}
-use Rattle.search.specs.inner.Parts.{told_bit, ByRows, Tidy}
+use Rattle.row_search.specs.inner.Rows.{told_bit, ByRows, Tidy}
 use Rattle.search.proofs.Network.{corner_below}
 
 -- what is read: the row of s, that of v, or what the ends see

@@ -1,0 +1,200 @@
+// Which corners each mark has a clear straight to, as bits.
+#![tactic(auto)]
+
+ghost use Rattle.std.specs.Prelude.{◌≡◌, true, ℕ, ◌+◌, ◌*◌, ◌<◌, ◌≤◌, length};
+ghost use Rattle.bits.specs.inner.Bits.{bit};
+ghost use Rattle.lists.specs.inner.Filled.{filled};
+ghost use Rattle.tables.specs.Tables.{is_corner, pair_index};
+ghost use Rattle.mark_rows.specs.inner.Adjacent.{Adjacent, Said, Shows, Rows, Entered, Noted, NoneClear};
+
+// 1 where the byte says clear and corner u is present, else 0.
+fn clear_corner(blocks: &[u16], byte: u8, u: usize) -> u64
+    requires { length blocks.now ≡ 408 }
+    ensures { Shows ((is_corner blocks.now u ≡ true) × (byte ≡ 254)) result }
+{
+    if byte != 254 {
+        return 0;
+    }
+    if tables::is_corner(blocks, u) {
+        return 1;
+    }
+    0
+}
+
+// 1 where corner u is present and has a clear straight to mark v, else 0.
+pub fn adjacent(blocks: &[u16], pairs: &[u8], v: usize, u: usize) -> u64
+    requires { (length blocks.now ≡ 408) × (length pairs.now ≡ 28680) × (v < 240) × (u < 192) }
+    ensures { Shows (Adjacent blocks.now (Said pairs.now) v u) result }
+{
+    if u == v {
+        return 0;
+    }
+    clear_corner(blocks, tables::pair_byte(pairs, u, v), u)
+}
+
+// The corners 64 q to 64 q + 63 that are near mark v, each by its pair.
+fn word_by_pairs(blocks: &[u16], pairs: &[u8], v: usize, q: usize) -> u64
+    requires { (length blocks.now ≡ 408) × (length pairs.now ≡ 28680) × (v < 240) × (q < 3) }
+    ensures { (i : ℕ) → i < 64 → Shows (Adjacent blocks.now (Said pairs.now) v (64 * q + i)) (bit i result) }
+{
+    let mut w = 0;
+    let mut k = 64;
+    while 0 < k {
+        k -= 1;
+        let x = adjacent(blocks, pairs, v, 64 * q + k);
+        w = bits::below(w, x);
+    }
+    w
+}
+
+// The same for a mark above all corners, whose bytes stand together.
+fn word_by_row(blocks: &[u16], pairs: &[u8], v: usize, q: usize) -> u64
+    requires { (length blocks.now ≡ 408) × (length pairs.now ≡ 28680) × (192 ≤ v) × (v < 240) × (q < 3) }
+    ensures { (i : ℕ) → i < 64 → Shows (Adjacent blocks.now (Said pairs.now) v (64 * q + i)) (bit i result) }
+{
+    let start = tables::pair_index(64 * q, v);
+    let mut w = 0;
+    let mut k = 64;
+    while 0 < k {
+        k -= 1;
+        let x = clear_corner(blocks, pairs[start + k], 64 * q + k);
+        w = bits::below(w, x);
+    }
+    w
+}
+
+// The corners 64 q to 64 q + 63 that are near mark v.
+pub fn adjacent_word(blocks: &[u16], pairs: &[u8], v: usize, q: usize) -> u64
+    requires { (length blocks.now ≡ 408) × (length pairs.now ≡ 28680) × (v < 240) × (q < 3) }
+    ensures { (i : ℕ) → i < 64 → Shows (Adjacent blocks.now (Said pairs.now) v (64 * q + i)) (bit i result) }
+{
+    if v < 192 {
+        return word_by_pairs(blocks, pairs, v, q);
+    }
+    word_by_row(blocks, pairs, v, q)
+}
+
+fn clear(adj: &mut [u64])
+    ensures { adj.new ≡ filled (length adj.old) 0 }
+{
+    let mut k = 0;
+    while k < adj.len() {
+        adj[k] = 0;
+        k += 1;
+    }
+}
+
+// Sets bit u of row v, if corner u is there.
+fn note(adj: &mut [u64], v: usize, u: usize, there: bool)
+    requires { (length adj.old ≡ 720) × (v < 192) × (u < 192) }
+    ensures { Noted adj.old adj.new v u there }
+{
+    if !there {
+        return;
+    }
+    let k = 3 * v + u / 64;
+    adj[k] = bits::with_bit(adj[k], (u % 64) as u32);
+}
+
+// Enters the byte of corners i and j, which stands at `at`, in the rows of both.
+fn enter(blocks: &[u16], pairs: &[u8], adj: &mut [u64], at: usize, i: usize, j: usize, there: bool)
+    requires blocks_len { (length blocks.now ≡ 408) × (length pairs.now ≡ 28680) × (i < j) × (j < 192) × (at ≡ pair_index i j) × (there ≡ is_corner blocks.now j) }
+    requires entered { Entered blocks.now pairs.now adj.old at }
+    ensures { Entered blocks.now pairs.now adj.new (at + 1) }
+{
+    if pairs[at] != 254 {
+        return;
+    }
+    note(adj, j, i, tables::is_corner(blocks, i));
+    note(adj, i, j, there);
+}
+
+// Whether none of the sixteen bytes from `at` on says clear.
+fn none_clear(pairs: &[u8], at: usize) -> bool
+    requires { at + 16 ≤ length pairs.now }
+    ensures { result ≡ true → NoneClear pairs.now at 16 }
+{
+    let mut any = false;
+    let mut k = 0;
+    while k < 16 {
+        any = any | (pairs[at + k] == 254);
+        k += 1;
+    }
+    !any
+}
+
+// Enters the bytes of corner j and the corners from i to the one before `end`.
+fn enter_each(
+    blocks: &[u16],
+    pairs: &[u8],
+    adj: &mut [u64],
+    start: usize,
+    i: usize,
+    end: usize,
+    j: usize,
+)
+    requires blocks_len { (length blocks.now ≡ 408) × (length pairs.now ≡ 28680) × (i ≤ end) × (end ≤ j) × (j < 192) × (start ≡ pair_index 0 j) }
+    requires entered { Entered blocks.now pairs.now adj.old (start + i) }
+    ensures { Entered blocks.now pairs.now adj.new (start + end) }
+{
+    let there = tables::is_corner(blocks, j);
+    let mut k = i;
+    while k < end {
+        enter(blocks, pairs, adj, start + k, k, j, there);
+        k += 1;
+    }
+}
+
+// The same of sixteen corners from i on, of which most often none has a clear straight.
+fn enter_sixteen(blocks: &[u16], pairs: &[u8], adj: &mut [u64], start: usize, i: usize, j: usize)
+    requires blocks_len { (length blocks.now ≡ 408) × (length pairs.now ≡ 28680) × (i + 16 ≤ j) × (j < 192) × (start ≡ pair_index 0 j) }
+    requires entered { Entered blocks.now pairs.now adj.old (start + i) }
+    ensures { Entered blocks.now pairs.now adj.new (start + (i + 16)) }
+{
+    if none_clear(pairs, start + i) {
+        return;
+    }
+    enter_each(blocks, pairs, adj, start, i, i + 16, j);
+}
+
+// Enters the bytes of corner j and the corners below it, which begin at `start`.
+fn enter_row(blocks: &[u16], pairs: &[u8], adj: &mut [u64], start: usize, j: usize)
+    requires blocks_len { (length blocks.now ≡ 408) × (length pairs.now ≡ 28680) × (j < 192) × (start ≡ pair_index 0 j) }
+    requires entered { Entered blocks.now pairs.now adj.old start }
+    ensures { Entered blocks.now pairs.now adj.new (start + j) }
+{
+    let mut i = 0;
+    while i + 16 <= j {
+        enter_sixteen(blocks, pairs, adj, start, i, j);
+        i += 16;
+    }
+    enter_each(blocks, pairs, adj, start, i, j, j);
+}
+
+// The corners near each corner, in three words each.
+fn fill_corners(blocks: &[u16], pairs: &[u8], adj: &mut [u64])
+    requires { (length blocks.now ≡ 408) × (length pairs.now ≡ 28680) × (length adj.old ≡ 720) }
+    ensures { Rows blocks.now (Said pairs.now) adj.new 576 }
+{
+    clear(adj);
+    let mut start = 0;
+    let mut j = 0;
+    while j < 192 {
+        enter_row(blocks, pairs, adj, start, j);
+        start += j;
+        j += 1;
+    }
+}
+
+// The corners near each mark, in three words each.
+pub fn fill_rows(blocks: &[u16], pairs: &[u8], adj: &mut [u64])
+    requires { (length blocks.now ≡ 408) × (length pairs.now ≡ 28680) × (length adj.old ≡ 720) }
+    ensures { Rows blocks.now (Said pairs.now) adj.new 720 }
+{
+    fill_corners(blocks, pairs, adj);
+    let mut k = 576;
+    while k < 720 {
+        adj[k] = adjacent_word(blocks, pairs, k / 3, k % 3);
+        k += 1;
+    }
+}

@@ -1,0 +1,10 @@
+use Rattle.tables.specs.Tables.{stored}
+use Rattle.row_search.specs.inner.Rows.{ByRows}
+use Rattle.settling.proofs.States.{State}
+use Rattle.row_settling.proofs.settle.Given as goal
+
+abbrev pub invariant-loop-n : goal.invariant-loop-n
+invariant-loop-n l = State (stored l.blocks l.runs) (ByRows l.rows l.facing) l.m l.waiting l.spot l.sums l.u l.n l.key
+
+abbrev pub decreases-loop-n : goal.decreases-loop-n
+decreases-loop-n l = l.n

@@ -1,0 +1,146 @@
+// The search of one run: marks are settled one by one, the least sum of key and bound first, until the first end is.
+#![tactic(auto)]
+
+ghost use Rattle.std.specs.Prelude.{◌≡◌, ◌<◌, length};
+ghost use Rattle.tables.specs.Tables.{stored, first_end, second_end};
+ghost use Rattle.tables.specs.inner.Fit.{Fit};
+ghost use Rattle.search.specs.Network.{graph};
+ghost use Rattle.search.specs.inner.LowerBound.{lower_bound};
+ghost use Rattle.search.specs.inner.Keys.{unreached, Filled, Searched};
+ghost use Rattle.search.specs.inner.Parts.{Places, Ranked, Bends, Parted};
+ghost use Rattle.row_search.specs.inner.Rows.{Tidy, ByRows};
+ghost use Rattle.settling.specs.inner.Turns.{EndSettled, Due, Turned};
+
+use search::Settled;
+
+// Settles the second end of run m, when all n marks are waiting.
+fn settle_end(
+    blocks: &[u16],
+    runs: &[u16],
+    places: &[u16],
+    rows: &[u64],
+    facing: bool,
+    m: usize,
+    n: usize,
+    waiting: &mut [u16],
+    spot: &mut [u8],
+    key: &mut [u32],
+    sums: &mut [u32],
+) -> usize
+    requires fit { (Fit (stored blocks.now runs.now)) × (Places (stored blocks.now runs.now) places.now 240) × (Tidy blocks.now rows.now) × (m < 24) }
+    requires ranked { (Ranked blocks.now (first_end m) waiting.old spot.old n) × (Filled key.old 240 unreached) × (length sums.old ≡ 194) }
+    ensures { EndSettled (stored blocks.now runs.now) (ByRows rows.now facing) m waiting.old spot.old key.old waiting.new spot.new key.new sums.new result n }
+{
+    let first = 192 + 2 * m;
+    let second = 193 + 2 * m;
+    key[second] = 0;
+    let by = Settled {
+        mark: second,
+        place: search::listed_place(places, second),
+        key: 0,
+        left: n,
+        figure: tables::figure_of(runs),
+        goal: search::listed_place(places, first),
+    };
+    row_search::relax(
+        blocks, places, rows, facing, by, first, n, waiting, spot, key, sums,
+    )
+}
+
+// Settles the mark at a place of the list, where n marks are waiting and the first u of them are not reached.
+fn settle_mark(
+    blocks: &[u16],
+    runs: &[u16],
+    places: &[u16],
+    rows: &[u64],
+    facing: bool,
+    m: usize,
+    at: usize,
+    u: usize,
+    n: usize,
+    waiting: &mut [u16],
+    spot: &mut [u8],
+    key: &mut [u32],
+    sums: &mut [u32],
+) -> usize
+    requires fit { (Fit (stored blocks.now runs.now)) × (Places (stored blocks.now runs.now) places.now 240) × (Tidy blocks.now rows.now) × (m < 24) }
+    requires parted { (Parted (lower_bound (stored blocks.now runs.now) (first_end m)) waiting.old spot.old key.old sums.old u n) × (Bends blocks.now (first_end m) waiting.old spot.old n) × (Due waiting.old key.old u n at) }
+    ensures { Turned (stored blocks.now runs.now) (ByRows rows.now facing) m waiting.old spot.old key.old waiting.new spot.new key.new sums.new at n result }
+{
+    let first = 192 + 2 * m;
+    let s = waiting[at] as usize;
+    let left = n - 1;
+    search::swap(waiting, spot, at, left);
+    sums[at] = sums[left];
+    let by = Settled {
+        mark: s,
+        place: search::listed_place(places, s),
+        key: key[s],
+        left: left,
+        figure: tables::figure_of(runs),
+        goal: search::listed_place(places, first),
+    };
+    row_search::relax(
+        blocks, places, rows, facing, by, first, u, waiting, spot, key, sums,
+    )
+}
+
+// Finds the keys for run m, of which none is reached at first, by the rows of near corners and whether its ends see each other; answers whether there is a way.
+// The list is kept in three parts: the first u marks are not reached, those before n are waiting, the others are settled.
+pub fn settle(
+    blocks: &[u16],
+    runs: &[u16],
+    places: &[u16],
+    rows: &[u64],
+    facing: bool,
+    m: usize,
+    key: &mut [u32],
+) -> bool
+    requires fit { (Fit (stored blocks.now runs.now)) × (Places (stored blocks.now runs.now) places.now 240) × (Tidy blocks.now rows.now) }
+    requires m_bound { (m < 24) × (Filled key.old 240 unreached) }
+    ensures { Searched (graph (stored blocks.now runs.now) (ByRows rows.now facing)) (first_end m) (second_end m) key.new result }
+{
+    let first = 192 + 2 * m;
+    let mut waiting = [0u16; 194];
+    let mut spot = [0u8; 240];
+    let mut n = search::list_bends(blocks, first, &mut waiting, &mut spot);
+    let mut sums = [0u32; 194];
+    let mut u = settle_end(
+        blocks,
+        runs,
+        places,
+        rows,
+        facing,
+        m,
+        n,
+        &mut waiting,
+        &mut spot,
+        key,
+        &mut sums,
+    );
+    loop {
+        let at = heaps::least_sum(&sums, u, n);
+        if at >= n {
+            return false;
+        }
+        if key[first] <= sums[at] {
+            return true;
+        }
+        u = settle_mark(
+            blocks,
+            runs,
+            places,
+            rows,
+            facing,
+            m,
+            at,
+            u,
+            n,
+            &mut waiting,
+            &mut spot,
+            key,
+            &mut sums,
+        );
+        n -= 1;
+    }
+}
