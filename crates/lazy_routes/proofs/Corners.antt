@@ -1,5 +1,6 @@
 -- The list of corners, the two ends behind it, and that a search over that list is one over the corners.
 use mathlib.Core.Path.{◌≡◌, sym, ap, ◌∙◌, subst}
+use mathlib.Core.Logic.{inl, inr}
 use mathlib.Core.Bool.{Bool, true, false, true≢false}
 use mathlib.Core.List.{List}
 use Prim.Native.Nat.{ℕ, ◌+◌, ◌≤◌, ◌<◌}
@@ -7,11 +8,12 @@ use native.Mathlib.Decide.{dec_lt}
 use native.Mathlib.Omega.{arith}
 use lib.ListN.{length, set, length-set}
 use lib.Seq.{get_or-set_same, get_or-set_other}
+use Rattle.paths.specs.Path.{Graph, Chain}
+use Rattle.paths.proofs.Maps.{chain_map}
 use Rattle.geometry.specs.Words.{word}
 use Rattle.tables.specs.Tables.{Records, is_corner, first_end, second_end}
-use Rattle.search.specs.inner.Keys.{Searched}
+use Rattle.search.specs.inner.Keys.{Vertex, Attained, Keyed, Searched}
 use Rattle.search.proofs.Network.{corner_below}
-use Rattle.search.proofs.Told.{searched_map}
 use Rattle.heaps.specs.inner.Marks.{Among, Once}
 use Rattle.lazy_search.specs.inner.Lazy.{straights, network, Listing}
 use Rattle.lazy_routes.specs.inner.Corners.{CornersListed}
@@ -138,7 +140,42 @@ module _ {blocks order : List ℕ} {n : ℕ} (k : CornersListed blocks order n) 
       }
 
 -- a search over the list is one over the corners
-pub searched_as : (R : Records) {order : List ℕ} {n : ℕ} → SameBends R.blocks order n → {start end : ℕ} {key : List ℕ} {r : Bool}
-    → Searched (network R order n) start end key r → Searched (straights R) start end key r
-searched_as R {order} {n} s {start} {end} =
-    searched_map (network R order n) (straights R).Inner (straights R).Edge start end (λ v. Unit {0}) tt tt (λ u a. (s.to u a, tt)) (λ u a. (s.back u a, tt)) (λ v u a b e. e) (λ v u a b e. e)
+module _ (R : Records) {order : List ℕ} {n : ℕ} (s : SameBends R.blocks order n) where
+  abbrev G : Graph
+  G = network R order n
+
+  abbrev H : Graph
+  H = straights R
+
+  chain_to : {end v : ℕ} {us : List ℕ} → Chain G end v us → Chain H end v us
+  chain_to {end} = chain_map G H end (λ v. Unit {0}) tt (λ u a. (s.to u a, tt)) (λ v u a b e. e) tt
+
+  chain_back : {end v : ℕ} {us : List ℕ} → Chain H end v us → Chain G end v us
+  chain_back {end} = chain_map H G end (λ v. Unit {0}) tt (λ u a. (s.back u a, tt)) (λ v u a b e. e) tt
+
+  vertex_to : {start v : ℕ} → Vertex G start v → Vertex H start v
+  vertex_to (inl q) = inl q
+  vertex_to (inr a) = inr (s.to _ a)
+
+  vertex_back : {start v : ℕ} → Vertex H start v → Vertex G start v
+  vertex_back (inl q) = inl q
+  vertex_back (inr a) = inr (s.back _ a)
+
+  attained_as : {start end v k : ℕ} → Attained G start end v k → Attained H start end v k
+  attained_as t = record { vertex = vertex_to t.vertex; by = t.by; chain = chain_to t.chain; exact = t.exact; few = t.few }
+
+  keyed_as : {start end : ℕ} {key : List ℕ} → Keyed G start end key → Keyed H start end key
+  keyed_as k =
+      record {
+        sized = k.sized;
+        end_zero = k.end_zero;
+        reached = k.reached;
+        relaxed_last = λ v x. k.relaxed_last v (vertex_back x);
+        bound = k.bound;
+        consistent = record { none = k.consistent.none; step = k.consistent.step };
+        relaxed = λ v u x i. k.relaxed v u (vertex_back x) (s.back u i);
+        attained = λ v b e h. attained_as (k.attained v b e h);
+      }
+
+  pub searched_as : {start end : ℕ} {key : List ℕ} {r : Bool} → Searched G start end key r → Searched H start end key r
+  searched_as t = record { way = λ e. keyed_as (t.way e); no_way = λ e vs c. t.no_way e vs (chain_back c) }
