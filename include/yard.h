@@ -14,7 +14,7 @@
  * A call keeps nothing: there is no hidden state, no heap and no I/O. Calls on different tables may run at the same
  * time; calls on the same tables must not, except those that take them const beside each other. A call uses about 11 KiB
  * of stack (11,264 bytes at most where it was measured, on x86-64), yard_quote_route about 4 KiB (4,496 bytes),
- * yard_replay about 12.5 KiB (12,800 bytes) and a conversion of a yard file about 5 KiB (5,368 bytes): reserve 13 KiB. Only
+ * yard_replay about 12.5 KiB (12,800 bytes) and a conversion of a yard file about 6 KiB (6,344 bytes): reserve 13 KiB. Only
  * yard_quote_duct takes more, about 19 KB.
  *
  * East is the first coordinate, north the second, from 0 to 32,767; lengths are in centimetres.

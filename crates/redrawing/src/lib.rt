@@ -81,6 +81,7 @@ fn redraw_rows(
 }
 
 // The pairs after an edit of block n, in place.
+#[inline(never)]
 pub fn redraw_block(blocks: &[u16], runs: &[u16], pairs: &mut [u8], n: usize)
     requires { (Upright (stored blocks.now runs.now)) × (length pairs.old ≡ 28680) × (n < 24) }
     ensures { BlockRedrawn (stored blocks.now runs.now) n pairs.old pairs.new }

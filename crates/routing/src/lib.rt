@@ -121,6 +121,7 @@ pub fn route(
 }
 
 // Every run's.
+#[inline(never)]
 pub fn all_routes(blocks: &[u16], runs: &[u16], pairs: &[u8], routes: &mut [u32])
     requires { (Fit (stored blocks.now runs.now)) × (length pairs.now ≡ 28680) × (length routes.old ≡ 4728) }
     ensures { Routed (stored blocks.now runs.now) pairs.now routes.new }
