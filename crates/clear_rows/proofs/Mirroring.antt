@@ -9,7 +9,8 @@ use Rattle.tables.specs.Tables.{Records, is_corner, is_end, present}
 use Rattle.tables.proofs.Marks.{end_before}
 use Rattle.visibility.specs.Visibility.{ByPlaces}
 use Rattle.visibility.proofs.Straights.{clear_sym}
-use Rattle.mark_rows.specs.inner.Adjacent.{Adjacent, Shows, Rows, near_bit}
+use Rattle.adjacency.specs.inner.Adjacent.{Shows, near_bit}
+use Rattle.mark_rows.specs.inner.Adjacent.{Adjacent, Rows}
 use Rattle.mark_rows.proofs.Words.{shows_not, by_marks, by_words}
 use Rattle.corner_words.specs.inner.Mirrors.{LowerOnly, Mirrored}
 use Rattle.clear_rows.specs.inner.Sparing.{Seen, AllSay}

@@ -26,7 +26,7 @@ use Rattle.codes.specs.inner.Codes.{RightRecord, Upright, CodesAre, Hiding, Met}
 use Rattle.codes.proofs.Coded.{shared}
 use Rattle.code_table.specs.inner.Lines.{Marks, mark_at, PlacesOf}
 use Rattle.visibility.specs.Visibility.{Hides}
-use Rattle.mark_rows.specs.inner.Adjacent.{Shows}
+use Rattle.adjacency.specs.inner.Adjacent.{Shows}
 use Rattle.corner_words.specs.inner.Corners.{Lower, Lefts, OpenWord}
 use Rattle.clear_rows.specs.inner.Sparing.{Spared, Seen, WordFor, AllSay, Sifts, Changed, HidBy, InTwo, Against}
 use Rattle.clear_rows.proofs.Sifting.{Sifting, sifting_from}

@@ -11,7 +11,7 @@ use Rattle.geometry.specs.Words.{word}
 use Rattle.bits.specs.inner.Bits.{bit}
 use Rattle.bits.proofs.Counting.{bit_zero, bit_set}
 use Rattle.tables.specs.Tables.{is_corner}
-use Rattle.mark_rows.specs.inner.Adjacent.{Shows}
+use Rattle.adjacency.specs.inner.Adjacent.{Shows}
 use Rattle.mark_rows.proofs.Words.{Part, part_whole, shows, shows_not}
 use Rattle.corner_words.specs.inner.Corners.{LowBits, Lower, CornersOf, Lefts}
 

@@ -9,7 +9,7 @@ use lib.Seq.{get_or-set_same, get_or-set_other}
 use Rattle.geometry.specs.Words.{word}
 use Rattle.bits.specs.inner.Bits.{bit, Lowest, WithoutLowest, With}
 use Rattle.bits.proofs.Counting.{bit_zero, bit_set}
-use Rattle.mark_rows.specs.inner.Adjacent.{near_bit}
+use Rattle.adjacency.specs.inner.Adjacent.{near_bit}
 use Rattle.corner_words.specs.inner.Mirrors.{LowerOnly, Mirrored, TurnedWord}
 
 -- bit v of row u is set, and all else is as it was

@@ -5,7 +5,7 @@ ghost use Rattle.std.specs.Prelude.{◌≡◌, true, ℕ, ◌+◌, ◌*◌, ◌<
 ghost use Rattle.geometry.specs.Words.{word};
 ghost use Rattle.bits.specs.inner.Bits.{bit};
 ghost use Rattle.tables.specs.Tables.{is_corner};
-ghost use Rattle.mark_rows.specs.inner.Adjacent.{Shows};
+ghost use Rattle.adjacency.specs.inner.Adjacent.{Shows};
 ghost use Rattle.corner_words.specs.inner.Corners.{LowBits, Lower, CornersOf, Lefts, OpenWord};
 ghost use Rattle.corner_words.specs.inner.Mirrors.{LowerOnly, Mirrored, TurnedWord};
 

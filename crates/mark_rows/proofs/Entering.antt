@@ -16,7 +16,8 @@ use Rattle.tables.proofs.Marks.{byte_up, byte_down}
 use Rattle.bits.specs.inner.Bits.{bit, With}
 use Rattle.bits.proofs.Counting.{bit_zero}
 use Rattle.mark_rows.proofs.Words.{by_words}
-use Rattle.mark_rows.specs.inner.Adjacent.{Adjacent, Said, Shows, Rows, Entered, Noted, near_bit, spot}
+use Rattle.adjacency.specs.inner.Adjacent.{Shows, near_bit, spot}
+use Rattle.mark_rows.specs.inner.Adjacent.{Adjacent, Said, Rows, Entered, Noted}
 
 -- the place of a pair's byte
 spot_up : (u v : ℕ) → u < v → spot u v ≡ tri v + u

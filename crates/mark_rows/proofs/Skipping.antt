@@ -8,7 +8,8 @@ use native.Mathlib.Decide.{ℕ_discrete}
 use lib.Dec.{eqb}
 use borrow.Author.Tests.{eqb-false}
 use Rattle.geometry.specs.Words.{word}
-use Rattle.mark_rows.specs.inner.Adjacent.{Entered, NoneClear}
+use Rattle.adjacency.specs.inner.Adjacent.{NoneClear}
+use Rattle.mark_rows.specs.inner.Adjacent.{Entered}
 use Rattle.mark_rows.proofs.Entering.{enter_none, entered_at}
 
 module _ (pairs : List ℕ) (at : ℕ) where

@@ -13,7 +13,8 @@ use Rattle.geometry.specs.Words.{word}
 use Rattle.tables.specs.Tables.{is_corner, pair_index, pair_byte}
 use Rattle.tables.proofs.Marks.{byte_up}
 use Rattle.bits.specs.inner.Bits.{bit}
-use Rattle.mark_rows.specs.inner.Adjacent.{Adjacent, Said, Shows, Rows, near_bit}
+use Rattle.adjacency.specs.inner.Adjacent.{Shows, near_bit}
+use Rattle.mark_rows.specs.inner.Adjacent.{Adjacent, Said, Rows}
 
 pub shows_not : (P : Type 0) → (P → ⊥) → Shows P 0
 shows_not P h = record { small = omega arith; yes' = λ e. absurd (omega arith); no' = λ p. absurd (h p) }

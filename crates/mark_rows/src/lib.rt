@@ -5,7 +5,8 @@ ghost use Rattle.std.specs.Prelude.{◌≡◌, true, ℕ, ◌+◌, ◌*◌, ◌<
 ghost use Rattle.bits.specs.inner.Bits.{bit};
 ghost use Rattle.lists.specs.inner.Filled.{filled};
 ghost use Rattle.tables.specs.Tables.{is_corner, pair_index};
-ghost use Rattle.mark_rows.specs.inner.Adjacent.{Adjacent, Said, Shows, Rows, Entered, Noted, NoneClear};
+ghost use Rattle.adjacency.specs.inner.Adjacent.{Shows, NoneClear};
+ghost use Rattle.mark_rows.specs.inner.Adjacent.{Adjacent, Said, Rows, Entered, Noted};
 
 // 1 where the byte says clear and corner u is present, else 0.
 fn clear_corner(blocks: &[u16], byte: u8, u: usize) -> u64

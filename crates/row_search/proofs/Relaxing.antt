@@ -10,7 +10,7 @@ use borrow.Author.Tests.{lt-ltb, le-ltb}
 use Rattle.geometry.specs.Words.{word}
 use Rattle.bits.specs.inner.Bits.{bit}
 use Rattle.bits.proofs.Counting.{bit_zero, bit_low}
-use Rattle.mark_rows.specs.inner.Adjacent.{near_bit}
+use Rattle.adjacency.specs.inner.Adjacent.{near_bit}
 use Rattle.search.specs.inner.Parts.{Here, Bend, Bends, Parted, Passed, Marked, near_base}
 use Rattle.row_search.specs.inner.Rows.{told_bit, ByRows, Tidy, near_word, Seen}
 use Rattle.search.proofs.Network.{corner_below}

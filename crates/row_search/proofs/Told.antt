@@ -13,7 +13,8 @@ use Rattle.geometry.specs.Words.{word}
 use Rattle.bits.specs.inner.Bits.{bit}
 use Rattle.bits.proofs.Counting.{bit_small}
 use Rattle.tables.specs.Tables.{Records, is_corner, first_end, second_end}
-use Rattle.mark_rows.specs.inner.Adjacent.{Adjacent, Shows, Rows, near_bit}
+use Rattle.adjacency.specs.inner.Adjacent.{Shows, near_bit}
+use Rattle.mark_rows.specs.inner.Adjacent.{Adjacent, Rows}
 use Rattle.mark_rows.proofs.Words.{by_marks}
 use Rattle.search.specs.Network.{graph}
 use Rattle.search.specs.inner.Keys.{Vertex, Attained, Keyed, Searched}

@@ -7,7 +7,8 @@ use Rattle.tables.specs.Tables.{Records, present}
 use Rattle.codes.specs.inner.Codes.{RightRecord, Hiding}
 use Rattle.code_table.specs.inner.Lines.{Marks, mark_at, RowIs}
 use Rattle.visibility.specs.Visibility.{Hides, ByPlaces}
-use Rattle.mark_rows.specs.inner.Adjacent.{Adjacent, Shows}
+use Rattle.adjacency.specs.inner.Adjacent.{Shows}
+use Rattle.mark_rows.specs.inner.Adjacent.{Adjacent}
 use Rattle.corner_words.specs.inner.Corners.{Lower}
 
 -- corner u is below mark v, both are there, and no block before n hides their straight

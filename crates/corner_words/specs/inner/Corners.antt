@@ -3,7 +3,7 @@ use Rattle.std.specs.Prelude.{◌≡◌, true, List, ℕ, ◌+◌, ◌*◌, ◌/
 use Rattle.geometry.specs.Words.{word}
 use Rattle.bits.specs.inner.Bits.{bit}
 use Rattle.tables.specs.Tables.{is_corner}
-use Rattle.mark_rows.specs.inner.Adjacent.{Shows}
+use Rattle.adjacency.specs.inner.Adjacent.{Shows}
 
 -- r has the lowest n bits of w
 pub record LowBits (w n r : ℕ) : Type 0 where

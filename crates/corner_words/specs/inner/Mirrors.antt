@@ -2,7 +2,7 @@
 use Rattle.std.specs.Prelude.{◌≡◌, List, ℕ, ◌+◌, ◌*◌, ◌/◌, ◌%◌, ◌<◌, length}
 use Rattle.geometry.specs.Words.{word}
 use Rattle.bits.specs.inner.Bits.{bit}
-use Rattle.mark_rows.specs.inner.Adjacent.{near_bit}
+use Rattle.adjacency.specs.inner.Adjacent.{near_bit}
 
 -- every set bit of the rows is that of a lower mark
 pub record LowerOnly (rows : List ℕ) : Type 0 where

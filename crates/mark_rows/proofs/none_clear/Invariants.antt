@@ -1,7 +1,7 @@
 use mathlib.Core.Path.{◌≡◌}
 use mathlib.Core.Bool.{false}
 use Prim.Native.Nat.{◌-◌, ◌≤◌}
-use Rattle.mark_rows.specs.inner.Adjacent.{NoneClear}
+use Rattle.adjacency.specs.inner.Adjacent.{NoneClear}
 use Rattle.mark_rows.proofs.none_clear.Given as goal
 
 abbrev pub invariant-loop-k : goal.invariant-loop-k

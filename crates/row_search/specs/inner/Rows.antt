@@ -2,7 +2,7 @@
 use Rattle.std.specs.Prelude.{◌≡◌, Bool, true, cond, List, ℕ, ◌+◌, ◌*◌, ◌<◌, ltb, length}
 use Rattle.geometry.specs.Words.{word}
 use Rattle.tables.specs.Tables.{is_corner}
-use Rattle.mark_rows.specs.inner.Adjacent.{near_bit}
+use Rattle.adjacency.specs.inner.Adjacent.{near_bit}
 
 -- 1 where the rows say that the straight from v to s is clear: of a corner v by the row of s, of an end by its own row; what two ends see of each other is told apart
 unfoldable pub told_bit : List ℕ → Bool → ℕ → ℕ → ℕ
