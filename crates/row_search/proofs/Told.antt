@@ -10,7 +10,6 @@ use borrow.Author.Tests.{lt-ltb, le-ltb}
 use Rattle.paths.specs.Path.{Graph}
 use Rattle.paths.proofs.Maps.{chain_map}
 use Rattle.geometry.specs.Words.{word}
-use Rattle.bits.specs.inner.Bits.{bit}
 use Rattle.bits.proofs.Counting.{bit_small}
 use Rattle.tables.specs.Tables.{Records, is_corner, first_end, second_end}
 use Rattle.adjacency.specs.inner.Adjacent.{Shows, near_bit}

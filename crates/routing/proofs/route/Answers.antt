@@ -1,8 +1,6 @@
 -- Each return is one case of `RouteIs`.
-use mathlib.Core.Path.{◌≡◌}
 use native.Mathlib.Omega.{arith}
 use lib.ListN.{length-set}
-use Rattle.lists.specs.inner.Filled.{filled}
 use Rattle.search.specs.inner.Keys.{unreached}
 use Rattle.search.proofs.Steps.{filled_all}
 use Rattle.routing.proofs.Written.{cleared, absent_record, no_way_record, found_record}

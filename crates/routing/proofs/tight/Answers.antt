@@ -1,10 +1,6 @@
-use mathlib.Core.Path.{◌≡◌, sym, ◌∙◌}
+use mathlib.Core.Path.{sym, ◌∙◌}
 use native.Mathlib.Omega.{arith}
 use borrow.Author.Rules.{rules}
-use Rattle.lengths.specs.Length.{root_up}
-use Rattle.lengths.specs.Charge.{charge}
-use Rattle.tables.specs.Tables.{stored}
-use Rattle.search.specs.Network.{cost}
 use Rattle.search.proofs.Steps.{cost_is}
 use Rattle.routing.proofs.TightKeys.{loose_order, loose_straights, loose_hidden, by_cost}
 use Rattle.routing.proofs.tight.Goals as goal
