@@ -61,13 +61,6 @@ parts l r p q t l₀ q₀ r₀ p₀ y n =
       no' = λ e m. clash_ℤ (meet_only m.0 m.1 l r p q l₀ q₀ r₀ p₀ m.3 m.4) (n e);
     }
 
-pub either_last : (x y : ℤ) → x ≤ℤ pos 0 → Tells ((pos 0 <ℤ x) ⊎ (pos 0 <ℤ y)) (lt_z (pos 0) y)
-either_last x y h =
-    record {
-      yes' = λ e. inr (test_yes (pos 0) y e refl);
-      no' = λ e. ⊎_elim (λ a. clash_ℤ a h) (λ b. clash_ℤ b (test_no (pos 0) y e refl));
-    }
-
 -- neither is above 0
 pub neither : (x y : ℤ) → ((pos 0 <ℤ x) ⊎ (pos 0 <ℤ y) → ⊥) → (x ≤ℤ pos 0) × (y ≤ℤ pos 0)
 neither x y h =

@@ -10,16 +10,18 @@ use lib.Dec.{lit≤}
 use lib.IntN.{ℤ, pos}
 use lib.Signed.{◌≤ℤ◌}
 use lib.ListN.{take, drop, length-take, length-drop}
+use Rattle.std.specs.Prelude.{Option, Some, None}
 use lib.Seq.{get_or-take, get_or-drop}
 use Rattle.geometry.specs.Words.{Point, word, block_words, corners}
 use Rattle.geometry.specs.inner.Bounds.{BoundedRecord, Bounded}
 use Rattle.geometry.specs.Obstruction.{side_turn, Obstructs, Hidden}
 use Rattle.lists.specs.inner.Tells.{Tells}
+use Rattle.lists.proofs.Telling.{tells_as}
 use Rattle.geometry.specs.Overlap.{Overlaps}
-use Rattle.geometry.specs.inner.Overlapping.{FirstOverlapping}
-use Rattle.geometry.specs.inner.Sides.{Enters, Span, Small, Narrowed}
+use Rattle.geometry.specs.inner.Overlapping.{FirstIs, FirstOverlapping}
+use Rattle.geometry.specs.inner.Sides.{Enters, Span, Small, Narrowed, Meets}
 use Rattle.geometry.proofs.Bound.{within_pos}
-use Rattle.geometry.proofs.Sides.{span_none, not_entered}
+use Rattle.geometry.proofs.Sides.{span_none, not_entered, meets_enters, enters_meets}
 use Rattle.geometry.proofs.Corners.{places_length}
 use Rattle.geometry.proofs.Obstructing.{by_turns, of_turns}
 use Rattle.geometry.proofs.Overlapping.{hidden_overlaps}
@@ -49,75 +51,53 @@ pub part_overlaps : (t : List ℕ) (n : ℕ) (a b : Point) {c : Bool} → Tells 
 part_overlaps t n a b h = rw (part_is t n) at h
 
 -- the block's turns, of both ends
-module _ (blocks : List ℕ) (n : ℕ) (a b : Point) where
-  abbrev pub Entered : List ℕ → Type 0
-  Entered ws = Enters (word ws 0) (side_turn (corners ws) a) (side_turn (corners ws) b)
+module _ (ws : List ℕ) (a b : Point) where
+  abbrev pub Entered : Type 0
+  Entered = Enters (word ws 0) (side_turn (corners ws) a) (side_turn (corners ws) b)
 
-  abbrev Hiding : List ℕ → Type 0
-  Hiding ws = (0 < word ws 0) × Obstructs (corners ws) a b
+  abbrev pub Hiding : Type 0
+  Hiding = (0 < word ws 0) × Obstructs (corners ws) a b
 
-  pub hidden_by_lem : {ws : List ℕ} → ws ≡ block_words blocks n → 0 < word ws 0 → Entered ws → Hidden blocks n a b
-  hidden_by_lem {ws} e h i =
-      let p : Hiding (block_words blocks n) = subst Hiding e (h, of_turns (corners ws) a b (rw (places_length ws 1 (word ws 0)) i)) in
-      record { stands = p.0; across = p.1 }
+  pub hiding : 0 < word ws 0 → Entered → Hiding
+  hiding h i = (h, of_turns (corners ws) a b (rw (places_length ws 1 (word ws 0)) i))
 
-  pub not_hidden : {ws : List ℕ} → ws ≡ block_words blocks n → (0 < word ws 0 → Entered ws → ⊥) → Hidden blocks n a b → ⊥
-  not_hidden {ws} e f h =
-      let p : Hiding ws = subst Hiding (sym e) (h.stands, h.across) in
-      f p.0 (rw (places_length ws 1 (word ws 0)) at (by_turns (corners ws) a b p.1))
+  pub entered : Hiding → Entered
+  entered h = rw (places_length ws 1 (word ws 0)) at (by_turns (corners ws) a b h.1)
 
-  -- k sides of block n are passed; at the last the block is known not to hide
-  pub record Passed (ws : List ℕ) (count : ℕ) (l r p q : ℤ) (k : ℕ) : Type 0 where
-    pub words : ws ≡ block_words blocks n
-    pub bounded : BoundedRecord ws
-    pub counted : count ≡ word ws 0
-    pub within : k ≤ count
+  -- k sides are passed
+  pub record Passed (l r p q : ℤ) (k : ℕ) : Type 0 where
     pub small : Small l r p q
     pub span : Span k (side_turn (corners ws) a) (side_turn (corners ws) b) l r p q
-    pub shut : k ≡ count → 0 < count → Entered ws → ⊥
 
-  pub passed_none : Bounded blocks → n < 24 → {ws : List ℕ} → ws ≡ block_words blocks n → Passed ws (word ws 0) (pos 1) (pos 1) (pos 1) (pos 1) 0
-  passed_none t h {ws} e =
+  pub passed_none : Passed (pos 1) (pos 1) (pos 1) (pos 1) 0
+  passed_none =
       record {
-        words = e;
-        bounded = rw e (record_bounded blocks n t h);
-        counted = refl;
-        within = omega arith;
         small = record { small_l = within_pos (lit≤ tt); small_r = within_pos (lit≤ tt); small_p = within_pos (lit≤ tt); small_q = within_pos (lit≤ tt) };
         span = span_none _ _;
-        shut = λ q o i. omega arith;
       }
 
-  pub passed_next : {ws : List ℕ} {count k : ℕ} {l r p q x y l' r' p' q' : ℤ} → Passed ws count l r p q k → k < count
-      → side_turn (corners ws) a k ≡ x → side_turn (corners ws) b k ≡ y → Narrowed l r p q x y l' r' p' q'
-      → (k + 1 ≡ count → Entered ws → ⊥) → Passed ws count l' r' p' q' (k + 1)
-  passed_next {k} g h ex ey m f =
-      record {
-        words = g.words;
-        bounded = g.bounded;
-        counted = g.counted;
-        within = omega arith;
-        small = m.small;
-        span = rw add-one (m.span k _ _ ex ey g.span);
-        shut = λ e o i. f e i;
-      }
-
-  -- the span over every side
-  pub span_whole : {ws : List ℕ} {count k : ℕ} {l r p q x y l' r' p' q' : ℤ} → Passed ws count l r p q k → k + 1 ≡ count
-      → side_turn (corners ws) a k ≡ x → side_turn (corners ws) b k ≡ y → Narrowed l r p q x y l' r' p' q'
-      → Span (word ws 0) (side_turn (corners ws) a) (side_turn (corners ws) b) l' r' p' q'
-  span_whole {ws} {count} {k} g e ex ey m =
-      let c : suc k ≡ word ws 0 = omega (arith, g.counted) in
-      rw c at (m.span k _ _ ex ey g.span)
+  pub passed_next : {k : ℕ} {l r p q x y l' r' p' q' : ℤ} → Passed l r p q k → side_turn (corners ws) a k ≡ x → side_turn (corners ws) b k ≡ y
+      → Narrowed l r p q x y l' r' p' q' → Passed l' r' p' q' (k + 1)
+  passed_next {k} g ex ey m = record { small = m.small; span = rw add-one (m.span k _ _ ex ey g.span) }
 
   -- a side with both turns at most 0
-  pub passed_shut : {ws : List ℕ} {count k : ℕ} {l r p q x y : ℤ} → Passed ws count l r p q k → k < count
-      → side_turn (corners ws) a k ≡ x → side_turn (corners ws) b k ≡ y → (x ≤ℤ pos 0) × (y ≤ℤ pos 0) → Hidden blocks n a b → ⊥
-  passed_shut {ws} {count} {k} g h ex ey s =
-      not_hidden g.words (λ o i. not_entered (word ws 0) _ _ k (omega (arith, g.counted)) (rw ex s.0) (rw ey s.1) i)
+  pub passed_shut : {k : ℕ} {x y : ℤ} → k < word ws 0 → side_turn (corners ws) a k ≡ x → side_turn (corners ws) b k ≡ y
+      → (x ≤ℤ pos 0) × (y ≤ℤ pos 0) → Hiding → ⊥
+  passed_shut {k} h ex ey s d = not_entered (word ws 0) _ _ k h (rw ex s.0) (rw ey s.1) (entered d)
 
-  pub passed_all : {ws : List ℕ} {count k : ℕ} {l r p q : ℤ} → Passed ws count l r p q k → count ≤ k → Hidden blocks n a b → ⊥
-  passed_all g h = not_hidden g.words (λ o i. g.shut (omega (arith, g.within)) (omega (arith, g.counted)) i)
+  -- every side is passed
+  pub passed_all : {k : ℕ} {l r p q : ℤ} {t : Bool} → Passed l r p q k → k ≡ word ws 0 → 0 < word ws 0 → Tells (Meets l r p q) t → Tells Hiding t
+  passed_all {k} {l} {r} {p} {q} g e o =
+      let s : Span (word ws 0) (side_turn (corners ws) a) (side_turn (corners ws) b) l r p q = rw e at g.span in
+      tells_as (λ m. hiding o (meets_enters _ _ _ s m)) (λ d. enters_meets _ _ _ s (entered d))
+
+-- the same of block n
+module _ (blocks : List ℕ) (n : ℕ) (a b : Point) where
+  pub hidden_by_lem : Hiding (block_words blocks n) a b → Hidden blocks n a b
+  hidden_by_lem h = record { stands = h.0; across = h.1 }
+
+  pub tells_hidden : {t : Bool} → Tells (Hiding (part blocks n) a b) t → Tells (Hidden blocks n a b) t
+  tells_hidden h = tells_as hidden_by_lem (λ d. (d.stands, d.across)) (rw (part_is blocks n) at h)
 
 -- one block more that does not hide
 pub none_more : (P : ℕ → Type 0) (from n : ℕ) → ((k : ℕ) → from ≤ k → k < n → P k → ⊥) → (P n → ⊥) → (k : ℕ) → from ≤ k → k < n + 1 → P k → ⊥
@@ -128,19 +108,23 @@ none_more P from n f g k lo hi h = go (dec_lt k n)
     go (no l) = let e : k ≡ n = omega arith in g (subst P e h)
 
 -- the blocks that the search passes because they do not overlap
-pub none_passed : {blocks : List ℕ} {from to : ℕ} {a b : Point} {n : ℕ} → FirstOverlapping blocks from to a b n → (k : ℕ) → from ≤ k → k < n → Hidden blocks k a b → ⊥
-none_passed {blocks} {a} {b} f k lo hi h = f.passed k lo hi (hidden_overlaps blocks k a b h)
+pub passed_over : (blocks : List ℕ) (a b : Point) (from to : ℕ) → ((k : ℕ) → from ≤ k → k < to → Overlaps (corners (block_words blocks k)) a b → ⊥)
+    → (k : ℕ) → from ≤ k → k < to → Hidden blocks k a b → ⊥
+passed_over blocks a b from to f k lo hi h = f k lo hi (hidden_overlaps blocks k a b h)
 
 pub none_between : (P : ℕ → Type 0) (from l n : ℕ) → ((k : ℕ) → from ≤ k → k < l → P k → ⊥) → ((k : ℕ) → l ≤ k → k < n → P k → ⊥) → (k : ℕ) → from ≤ k → k < n → P k → ⊥
 none_between P from l n f g k lo hi h = elim (dec_lt k l) [ yes r ↦ f k lo r h | no r ↦ g k (omega arith) hi h ]
 
--- the promise determines the block
-first_below : {blocks : List ℕ} {from to : ℕ} {a b : Point} {n m : ℕ} → FirstOverlapping blocks from to a b n → FirstOverlapping blocks from to a b m → n < m → ⊥
-first_below {n} f g l = g.passed n f.after l (f.found (omega (arith, f.after, g.within)))
+-- the promise determines the answer
+first_below : {blocks : List ℕ} {from to : ℕ} {a b : Point} {n m : ℕ} → FirstIs blocks from to a b n → FirstIs blocks from to a b m → n < m → ⊥
+first_below {n} f g l = g.passed n f.after l f.found
 
-pub first_unique : {blocks : List ℕ} {from to : ℕ} {a b : Point} {n m : ℕ} → FirstOverlapping blocks from to a b n → FirstOverlapping blocks from to a b m → n ≡ m
-first_unique {n} {m} f g =
+first_unique : (blocks : List ℕ) (from to : ℕ) (a b : Point) (n m : Option ℕ) → FirstOverlapping blocks from to a b n → FirstOverlapping blocks from to a b m → n ≡ m
+first_unique blocks from to a b (Some n) (Some m) f g =
     elim (dec_lt n m) [
       | yes l ↦ absurd (first_below f g l)
-      | no l ↦ elim (dec_lt m n) [ yes r ↦ absurd (first_below g f r) | no r ↦ omega arith ]
+      | no l ↦ elim (dec_lt m n) [ yes r ↦ absurd (first_below g f r) | no r ↦ ap Some (omega arith) ]
     ]
+first_unique blocks from to a b (Some n) None f g = absurd (g n f.after f.before f.found)
+first_unique blocks from to a b None (Some m) f g = absurd (f m g.after g.before g.found)
+first_unique blocks from to a b None None f g = refl

@@ -7,29 +7,22 @@ ghost use Rattle.std.specs.Int.{w64};
 ghost use Rattle.std.proofs.Common.{SFits};
 ghost use Rattle.geometry.specs.Words.{point_of, word, corners};
 ghost use Rattle.geometry.specs.inner.Bounds.{BoundedRecord, Bounded, InRange};
-ghost use Rattle.geometry.specs.Obstruction.{turn, side_turn};
+ghost use Rattle.geometry.specs.Obstruction.{turn, side_turn, Obstructs};
 ghost use Rattle.geometry.specs.Overlap.{Overlaps};
 ghost use Rattle.geometry.specs.Convexity.{side_test, convex};
 ghost use Rattle.lists.specs.Lists.{all_below};
-ghost use Rattle.geometry.specs.inner.Overlapping.{FirstOverlapping};
-ghost use Rattle.geometry.specs.inner.Sides.{Within, Small, Narrowed, Meets};
+ghost use Rattle.geometry.specs.inner.Overlapping.{Across, FirstOverlapping};
+ghost use Rattle.geometry.specs.inner.Sides.{Within, SmallSpan, NarrowedSpan, Meets};
 ghost use Rattle.lists.specs.inner.Tells.{Tells};
 ghost use Rattle.geometry.specs.inner.Search.{Lowest};
 
-use coordinates::any_past;
+use coordinates::{Limit, any_past};
 
 // A place: east, then north.
 #[derive(Clone, Copy)]
 pub struct Place {
     pub east: u16,
     pub north: u16,
-}
-
-// The lowest block that hides a segment, or none.
-#[derive(Clone, Copy)]
-pub enum Hider {
-    At(usize),
-    Nothing,
 }
 
 // The tightest two of the sides passed, by the turns of both ends: (l, r) of those that the first end is not left of,
@@ -42,46 +35,23 @@ pub struct Span {
     pub q: i64,
 }
 
-pub fn wide(a: u16) -> i64
-    ensures { result ≡ pos a }
-{
-    a as i64
-}
-
-pub fn sub(a: i64, b: i64) -> i64
-    requires { SFits w64 (a -ℤ b) }
-    ensures { result ≡ a -ℤ b }
-{
-    a - b
-}
-
-pub fn mul(a: i64, b: i64) -> i64
-    requires { SFits w64 (a *ℤ b) }
-    ensures { result ≡ a *ℤ b }
-{
-    a * b
-}
-
 pub fn difference(a: u16, b: u16) -> i64
     ensures { result ≡ pos a -ℤ pos b }
 {
-    sub(wide(a), wide(b))
+    i64::from(a) - i64::from(b)
 }
 
 fn area(a: u16, b: u16, c: u16, d: u16) -> i64
     ensures { result ≡ (pos a -ℤ pos b) *ℤ (pos c -ℤ pos d) }
 {
-    mul(difference(a, b), difference(c, d))
+    difference(a, b) * difference(c, d)
 }
 
 // Above 0 where x lies strictly left of the side from p to q, 0 where it lies on the side's line, below 0 where right.
 pub fn turn(p: Place, q: Place, x: Place) -> i64
     ensures { result ≡ turn (point_of p) (point_of q) 1 (pos x.east) (pos x.north) }
 {
-    sub(
-        area(q.east, p.east, x.north, p.north),
-        area(q.north, p.north, x.east, p.east),
-    )
+    area(q.east, p.east, x.north, p.north) - area(q.north, p.north, x.east, p.east)
 }
 
 // The number of the corner after corner k, of m.
@@ -121,77 +91,63 @@ pub fn steeper(x: i64, y: i64, l: i64, r: i64) -> bool
     requires { (Within 2200000000 x) × (Within 2200000000 y) × (Within 2200000000 l) × (Within 2200000000 r) }
     ensures { result ≡ lt_z (x *ℤ r) (l *ℤ y) }
 {
-    mul(x, r) < mul(l, y)
+    x * r < l * y
 }
 
-// The two kept sides after the side whose turns are x and y.
-pub fn narrow(s: Span, x: i64, y: i64) -> Span
-    requires small { Small s.l s.r s.p s.q }
-    requires side { (Within 2200000000 x) × (Within 2200000000 y) × ((pos 0 <ℤ x) ⊎ (pos 0 <ℤ y)) }
-    ensures { Narrowed s.l s.r s.p s.q x y result.l result.r result.p result.q }
-{
-    if 0 < x {
-        if 0 < y {
-            return s;
-        }
-        if steeper(y, x, s.q, s.p) {
-            return Span {
-                l: s.l,
-                r: s.r,
-                p: x,
-                q: y,
-            };
-        }
-        return s;
-    }
-    if steeper(x, y, s.l, s.r) {
-        return Span {
-            l: x,
-            r: y,
-            p: s.p,
-            q: s.q,
-        };
-    }
-    s
-}
+impl Span {
+    // The whole segment: no side is passed.
+    pub const WHOLE: Span = Span {
+        l: 1,
+        r: 1,
+        p: 1,
+        q: 1,
+    };
 
-// Whether some point of the segment is left of both kept sides.
-pub fn parted(s: Span) -> bool
-    requires small { Small s.l s.r s.p s.q }
-    requires above { (pos 0 <ℤ s.r) × (pos 0 <ℤ s.p) }
-    ensures { Tells (Meets s.l s.r s.p s.q) result }
-{
-    let l = s.l;
-    let q = s.q;
-    if 0 < l {
-        return true;
+    // The two kept sides after the side whose turns are x and y.
+    pub fn narrow(self, x: i64, y: i64) -> Span
+        requires small { SmallSpan self }
+        requires side { (Within 2200000000 x) × (Within 2200000000 y) × ((pos 0 <ℤ x) ⊎ (pos 0 <ℤ y)) }
+        ensures { NarrowedSpan self x y result }
+    {
+        if 0 < x {
+            if 0 < y {
+                return self;
+            }
+            if steeper(y, x, self.q, self.p) {
+                return Span { p: x, q: y, ..self };
+            }
+            return self;
+        }
+        if steeper(x, y, self.l, self.r) {
+            return Span { l: x, r: y, ..self };
+        }
+        self
     }
-    if 0 < q {
-        return true;
+
+    // Whether some point of the segment is left of both kept sides.
+    pub fn parted(self) -> bool
+        requires small { SmallSpan self }
+        requires above { (pos 0 <ℤ self.r) × (pos 0 <ℤ self.p) }
+        ensures { Tells (Meets self.l self.r self.p self.q) result }
+    {
+        0 < self.l || 0 < self.q || steeper(self.l, self.r, self.p, self.q)
     }
-    steeper(l, s.r, s.p, q)
 }
 
 // Whether one of the two is above 0.
 pub fn either(x: i64, y: i64) -> bool
     ensures { Tells ((pos 0 <ℤ x) ⊎ (pos 0 <ℤ y)) result }
 {
-    if 0 < x {
-        return true;
-    }
-    0 < y
+    0 < x || 0 < y
 }
 
-pub fn lesser(a: u16, b: u16) -> u16
-    ensures { result ≡ min a b }
+// Whether a block record and a segment overlap along a coordinate, which the segment's ends have at p and q: east where i is 1,
+// north where it is 2.
+fn abreast(words: &[u16], i: usize, p: u16, q: u16) -> bool
+    requires { (BoundedRecord words.now) × (i ≤ 2) }
+    ensures { Tells (Across words.now i p q) result }
 {
-    if a < b { a } else { b }
-}
-
-pub fn greater(a: u16, b: u16) -> u16
-    ensures { result ≡ max a b }
-{
-    if a < b { b } else { a }
+    any_past(words, i, Limit::Above(p.min(q))) && any_past(words, i, Limit::Below(p.max(q)))
 }
 
 // Whether the enclosing rectangles of a block record and of the segment from a to b overlap. A block that lies far off
@@ -200,72 +156,55 @@ pub fn overlaps(words: &[u16], a: Place, b: Place) -> bool
     requires { BoundedRecord words.now }
     ensures { Tells (Overlaps (corners words.now) (point_of a) (point_of b)) result }
 {
-    if !any_past(words, 1, true, lesser(a.east, b.east)) {
-        return false;
-    }
-    if !any_past(words, 1, false, greater(a.east, b.east)) {
-        return false;
-    }
-    if !any_past(words, 2, true, lesser(a.north, b.north)) {
-        return false;
-    }
-    any_past(words, 2, false, greater(a.north, b.north))
+    abreast(words, 1, a.east, b.east) && abreast(words, 2, a.north, b.north)
 }
 
-// The first block from `from` on that overlaps the segment from a to b; where none before `to` does, `to`, or `from` if
-// that is higher.
-fn first_overlapping(blocks: &[u16], from: usize, to: usize, a: Place, b: Place) -> usize
+// The first of the blocks from..to that overlaps the segment from a to b.
+fn first_overlapping(blocks: &[u16], from: usize, to: usize, a: Place, b: Place) -> Option<usize>
     requires { (Bounded blocks.now) × (to ≤ 24) }
     ensures { FirstOverlapping blocks.now from to (point_of a) (point_of b) result }
 {
-    let mut n = from;
-    while n < to {
+    for n in from..to {
         if overlaps(&blocks[17 * n..17 * n + 17], a, b) {
-            return n;
+            return Some(n);
         }
-        n += 1;
     }
-    n
+    None
+}
+
+// Whether the polygon of a block record hides the segment from a to b.
+fn hides(words: &[u16], a: Place, b: Place) -> bool
+    requires { (BoundedRecord words.now) × (InRange (point_of a)) × (InRange (point_of b)) }
+    ensures { Tells ((0 < word words.now 0) × Obstructs (corners words.now) (point_of a) (point_of b)) result }
+{
+    let count = words[0] as usize;
+    let mut kept = Span::WHOLE;
+    for k in 0..count {
+        let x = side(words, k, a);
+        let y = side(words, k, b);
+        if !either(x, y) {
+            return false;
+        }
+        kept = kept.narrow(x, y);
+    }
+    0 < count && kept.parted()
 }
 
 // The lowest block of the numbers from..to that hides the segment from a to b.
-pub fn lowest_hider(blocks: &[u16], from: usize, to: usize, a: Place, b: Place) -> Hider
+pub fn lowest_hider(blocks: &[u16], from: usize, to: usize, a: Place, b: Place) -> Option<usize>
     requires blocks { Bounded blocks.now }
     requires range { to ≤ 24 }
     requires ends { (InRange (point_of a)) × (InRange (point_of b)) }
     ensures { Lowest blocks.now from to (point_of a) (point_of b) result }
 {
-    let mut n = first_overlapping(blocks, from, to, a, b);
-    'blocks: loop {
-        if to <= n {
-            return Hider::Nothing;
+    let mut left = from;
+    while let Some(n) = first_overlapping(blocks, left, to, a, b) {
+        if hides(&blocks[17 * n..17 * n + 17], a, b) {
+            return Some(n);
         }
-        let words = &blocks[17 * n..17 * n + 17];
-        let count = words[0] as usize;
-        let mut kept = Span {
-            l: 1,
-            r: 1,
-            p: 1,
-            q: 1,
-        };
-        let mut k = 0;
-        while k < count {
-            let x = side(words, k, a);
-            let y = side(words, k, b);
-            if !either(x, y) {
-                break;
-            }
-            kept = narrow(kept, x, y);
-            k += 1;
-            if k == count {
-                if parted(kept) {
-                    break 'blocks;
-                }
-            }
-        }
-        n = first_overlapping(blocks, n + 1, to, a, b);
+        left = n + 1;
     }
-    Hider::At(n)
+    None
 }
 
 // Whether corner l of a block record is an end of side k or strictly left of it.
@@ -274,13 +213,7 @@ fn is_left(words: &[u16], k: usize, l: usize) -> bool
     ensures { result ≡ side_test (corners words.now) k l }
 {
     let m = words[0] as usize;
-    if l == k {
-        return true;
-    }
-    if l == next(k, m) {
-        return true;
-    }
-    0 < side(words, k, corner(words, l))
+    l == k || l == next(k, m) || 0 < side(words, k, corner(words, l))
 }
 
 // Whether every other corner of a block record is strictly left of side k.
@@ -288,12 +221,8 @@ fn all_left(words: &[u16], k: usize) -> bool
     requires { (BoundedRecord words.now) × (k < word words.now 0) }
     ensures { result ≡ all_below (word words.now 0) (λ l. side_test (corners words.now) k l) }
 {
-    let m = words[0] as usize;
-    let mut l = 0;
-    while l < m {
-        if is_left(words, k, l) {
-            l += 1;
-        } else {
+    for l in 0..words[0] as usize {
+        if !is_left(words, k, l) {
             return false;
         }
     }
@@ -305,12 +234,8 @@ pub fn is_convex(words: &[u16]) -> bool
     requires { BoundedRecord words.now }
     ensures { result ≡ convex (corners words.now) }
 {
-    let m = words[0] as usize;
-    let mut k = 0;
-    while k < m {
-        if all_left(words, k) {
-            k += 1;
-        } else {
+    for k in 0..words[0] as usize {
+        if !all_left(words, k) {
             return false;
         }
     }

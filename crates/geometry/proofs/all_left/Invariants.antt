@@ -1,13 +1,9 @@
 use mathlib.Core.Path.{◌≡◌}
 use mathlib.Core.Bool.{true}
-use Prim.Native.Nat.{◌-◌, ◌≤◌}
 use Rattle.geometry.specs.Words.{corners}
 use Rattle.geometry.specs.Convexity.{side_test}
 use Rattle.lists.specs.Lists.{all_below}
 use Rattle.geometry.proofs.all_left.Given as goal
 
 abbrev pub invariant-loop-l : goal.invariant-loop-l
-invariant-loop-l now = (now.l ≤ now.m) × (all_below now.l (λ j. side_test (corners now.words) now.k j) ≡ true)
-
-abbrev pub decreases-loop-l : goal.decreases-loop-l
-decreases-loop-l now = now.m - now.l
+invariant-loop-l now = all_below now.l (λ j. side_test (corners now.words) now.k j) ≡ true

@@ -1,24 +1,10 @@
-use Rattle.lists.proofs.Telling.{told}
-use Rattle.geometry.proofs.Comparing.{lies_west, lies_east, lies_south, lies_north}
+use Rattle.lists.proofs.Telling.{tells_as, tells_no}
+use Rattle.geometry.proofs.Comparing.{overlaps_of, of_overlaps}
 use Rattle.geometry.proofs.overlaps.Goals as goal
 
-pub returns-then-not-any_past : goal.returns-then-not-any_past
-returns-then-not-any_past c = search lies_west
+pub returns-then-abreast : goal.returns-then-abreast
+returns-then-abreast c =
+    tells_as (λ n. overlaps_of _ _ _ (c.abreast.ensures.yes' c.if-abreast.true) n) (λ o. (of_overlaps _ _ _ o).1) c.abreast-then-abreast.ensures
 
-pub returns-then-not-any_past-2 : goal.returns-then-not-any_past-2
-returns-then-not-any_past-2 c = search lies_east
-
-pub returns-then-not-any_past-3 : goal.returns-then-not-any_past-3
-returns-then-not-any_past-3 c = search lies_south
-
-pub returns : goal.returns
-returns c =
-    lies_north _ _ _
-    c.lesser.ensures
-    (told c.any_past.ensures c.if-not-any_past.false-raw)
-    c.greater.ensures
-    (told c.any_past-2.ensures c.if-not-any_past-2.false-raw)
-    c.lesser-2.ensures
-    (told c.any_past-3.ensures c.if-not-any_past-3.false-raw)
-    c.greater-2.ensures
-    c.any_past-4.ensures
+pub returns-else-abreast : goal.returns-else-abreast
+returns-else-abreast c = rw c.if-abreast.false (tells_no (λ o. c.abreast.ensures.no' c.if-abreast.false (of_overlaps _ _ _ o).0))

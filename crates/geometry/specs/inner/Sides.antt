@@ -1,5 +1,6 @@
 -- What the search keeps of the sides that it has passed: the turns of both ends of a segment against a side are x and y.
 use Rattle.std.specs.Prelude.{◌≡◌, ℕ, suc, ◌+◌, ◌<◌, ◌≤◌, ℤ, pos, nat_abs, ◌+ℤ◌, ◌-ℤ◌, ◌*ℤ◌, ◌<ℤ◌}
+use Rattle.geometry.specs.declared.Span.{Span as Turns}
 
 -- |z| ≤ k; a record, so that k and z are found from a proof
 pub record Within (k : ℕ) (z : ℤ) : Type 0 where
@@ -39,3 +40,10 @@ pub record Narrowed (l r p q x y l' r' p' q' : ℤ) : Type 0 where
 -- some point of the segment is left of two sides, whose turns are (l, r) and (p, q)
 unfoldable pub Meets : ℤ → ℤ → ℤ → ℤ → Type 0
 Meets l r p q = (u : ℕ) × (s : ℕ) × (1 ≤ u + s) × In u s l r × In u s p q
+
+-- ---- of the code's struct
+abbrev pub SmallSpan : Turns → Type 0
+SmallSpan s = Small s.l s.r s.p s.q
+
+abbrev pub NarrowedSpan : Turns → ℤ → ℤ → Turns → Type 0
+NarrowedSpan s x y s' = Narrowed s.l s.r s.p s.q x y s'.l s'.r s'.p s'.q
