@@ -3,29 +3,28 @@ use mathlib.Core.Path.{◌≡◌, sym, subst, ◌∙◌}
 use mathlib.Core.Bool.{Bool, true, false, true≢false}
 use mathlib.Core.List.{List}
 use Prim.Native.Nat.{ℕ, ◌+◌, ◌<◌, ◌≤◌}
+use Rattle.std.specs.Prelude.{Option, Some, None, is_some}
 use native.Mathlib.Decide.{dec_lt}
 use native.Mathlib.Omega.{arith}
 use lib.IntN.{ℤ, pos}
 use Rattle.lists.specs.inner.Tells.{Tells}
 use Rattle.lists.proofs.Telling.{tells_yes, tells_no, tells_as}
 use Rattle.geometry.specs.Words.{Point, block_words}
+use Rattle.geometry.specs.declared.Span.{Span}
 use Rattle.seams.specs.Seam.{Shared}
 use Rattle.seams.specs.inner.Near.{Alone}
-use Rattle.seams.specs.inner.Reach.{Touched, Common, Reached, Meeting, Joined, SharedFrom, SharedBy}
+use Rattle.seams.specs.inner.Reach.{Touched, Both, Common, Left, Reached, Meeting, Joined, SharedFrom, SharedBy}
 use Rattle.seams.proofs.Rounds.{whole_both}
 use Rattle.seams.proofs.Seams.{Sharing, shared_of, unshared, alone_unshared}
 
 -- what the sides of a block leave tells whether it is met
-pub reached_meets : {ws : List ℕ} {a b : Point} {l r p q : ℤ} {t : Bool} {l' r' p' q' : ℤ} → Reached ws a b l r p q t l' r' p' q' → Tells (Meeting ws a b l r p q) t
+pub reached_meets : {ws : List ℕ} {a b : Point} {s : Span} (o : Option Span) → Reached ws a b s o → Tells (Meeting ws a b s.l s.r s.p s.q) (is_some o)
 unfolding Common
-reached_meets h =
-    record {
-      yes' = λ e.
-          let c = h.some e in
-          let i = h.all e c.0 c.1 c.2 c.3 in
-          record { u = c.0; s = c.1; some = c.2; between = i.0; touched = i.1 };
-      no' = λ e m. true≢false (sym (h.only m.u m.s m.some m.between m.touched).0 ∙ e);
-    }
+reached_meets (Some t) h =
+    let c = h.some in
+    let i = h.all c.0 c.1 c.2 c.3 in
+    tells_yes (record { u = c.0; s = c.1; some = c.2; between = i.0; touched = i.1 })
+reached_meets None h = tells_no (λ m. h m.u m.s m.some m.between m.touched)
 
 module _ (blocks : List ℕ) (from : ℕ) (a b : Point) (l r p q : ℤ) where
   -- no block of the numbers from..n is met between the two kept sides
@@ -53,34 +52,34 @@ module _ (blocks : List ℕ) (from : ℕ) (a b : Point) (l r p q : ℤ) where
     pub joined_no : 24 ≤ n → Tells (Joined blocks from a b l r p q) false
     joined_no z = tells_no (λ j. m.each j.k j.after (omega (arith, j.number)) j.met)
 
--- no point belongs to a record whose sides leave nothing of the whole segment
-untouched : {ws : List ℕ} {a b : Point} {t : Bool} {l r p q : ℤ} → Reached ws a b (pos 1) (pos 1) (pos 1) (pos 1) t l r p q → t ≡ false → (u s : ℕ) → 1 ≤ u + s → Touched ws a b u s → ⊥
-untouched h e u s w o = true≢false (sym (h.only u s w (whole_both u s) o).0 ∙ e)
-
 module _ (blocks : List ℕ) (a b : Point) where
   -- what the sides of block n leave of the whole segment
-  abbrev pub First : ℕ → Bool → ℤ → ℤ → ℤ → ℤ → Type 0
-  First n t l r p q = Reached (block_words blocks n) a b (pos 1) (pos 1) (pos 1) (pos 1) t l r p q
+  abbrev pub First : ℕ → ℤ → ℤ → ℤ → ℤ → Type 0
+  First n l r p q = Left (block_words blocks n) a b (pos 1) (pos 1) (pos 1) (pos 1) l r p q
 
-  module _ {n : ℕ} {t : Bool} {l r p q : ℤ} (h : First n t l r p q) where
+  -- or nothing
+  abbrev pub Shut : ℕ → Type 0
+  Shut n = (u s : ℕ) → 1 ≤ u + s → Both (pos 1) (pos 1) (pos 1) (pos 1) u s → Touched (block_words blocks n) a b u s → ⊥
+
+  module _ {n : ℕ} {l r p q : ℤ} (h : First n l r p q) where
     -- a block that is met between the sides that it keeps shares a point with it
-    pub by_meeting : {k : ℕ} → t ≡ true → Meeting (block_words blocks k) a b l r p q → SharedBy blocks n k a b
-    by_meeting e m = record { u = m.u; s = m.s; some = m.some; here = (h.all e m.u m.s m.some m.between).1; there = m.touched }
+    pub by_meeting : {k : ℕ} → Meeting (block_words blocks k) a b l r p q → SharedBy blocks n k a b
+    by_meeting m = record { u = m.u; s = m.s; some = m.some; here = (h.all m.u m.s m.some m.between).1; there = m.touched }
 
     pub meeting_by : {k : ℕ} → SharedBy blocks n k a b → Meeting (block_words blocks k) a b l r p q
-    meeting_by f = record { u = f.u; s = f.s; some = f.some; between = (h.only f.u f.s f.some (whole_both f.u f.s) f.here).1; touched = f.there }
+    meeting_by f = record { u = f.u; s = f.s; some = f.some; between = h.only f.u f.s f.some (whole_both f.u f.s) f.here; touched = f.there }
 
-    pub by_shut : {k : ℕ} → t ≡ false → SharedBy blocks n k a b → ⊥
-    by_shut e f = untouched h e f.u f.s f.some f.here
-
-    pub from_joined : {t' : Bool} → t ≡ true → Tells (Joined blocks (n + 1) a b l r p q) t' → Tells (SharedFrom blocks n a b) t'
-    from_joined e =
+    pub from_joined : {t : Bool} → Tells (Joined blocks (n + 1) a b l r p q) t → Tells (SharedFrom blocks n a b) t
+    from_joined =
         tells_as
-        (λ j. record { k = j.k; later = omega (arith, j.after); number = j.number; shared = by_meeting e j.met })
+        (λ j. record { k = j.k; later = omega (arith, j.after); number = j.number; shared = by_meeting j.met })
         (λ f. record { k = f.k; after = omega (arith, f.later); number = f.number; met = meeting_by f.shared })
 
-    pub from_shut : t ≡ false → Tells (SharedFrom blocks n a b) false
-    from_shut e = tells_no (λ f. by_shut e f.shared)
+  pub by_shut : {n k : ℕ} → Shut n → SharedBy blocks n k a b → ⊥
+  by_shut h f = h f.u f.s f.some (whole_both f.u f.s) f.here
+
+  pub from_shut : {n : ℕ} → Shut n → Tells (SharedFrom blocks n a b) false
+  from_shut h = tells_no (λ f. by_shut h f.shared)
 
   sharing : {n : ℕ} → n < 24 → (f : SharedFrom blocks n a b) → Sharing blocks a b n f.k f.shared.u f.shared.s
   sharing l f = let h = f.shared in record { some = h.some; first_number = l; second_number = f.number; first = h.here; second = h.there }

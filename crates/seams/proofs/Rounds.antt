@@ -14,7 +14,7 @@ use Rattle.geometry.specs.Obstruction.{side_turn}
 use Rattle.geometry.specs.inner.Sides.{Within}
 use Rattle.geometry.proofs.Bound.{within_pos, test_yes, test_no}
 use Rattle.geometry.proofs.Signed.{below_or_not, lt_le}
-use Rattle.seams.specs.inner.Reach.{On, Around, Touched, Both, Bounds, Ends, Kept, Narrower, Tightened, Common, Reached}
+use Rattle.seams.specs.inner.Reach.{On, Around, Touched, Both, Bounds, Ends, Kept, Narrower, Tightened, Common, Left}
 use Rattle.seams.proofs.Closed.{tighter, tighter_up, on_both, on_neither, on_first, on_last, meet_only, meet_if}
 use Rattle.lists.specs.inner.Tells.{Tells}
 use Rattle.lists.proofs.Telling.{tells_yes, tells_no}
@@ -115,12 +115,6 @@ module _ (l r p q : ℤ) (e : Ends l r p q) where
   common_tells true l₀ q₀ f g = tells_no (λ c. common_not l₀ q₀ (f refl) c.0 c.1 c.2 c.3)
   common_tells false l₀ q₀ f g = tells_yes (common_if l₀ (g refl))
 
-pub behind_first : (x y : ℤ) → x <ℤ pos 0 → Tells ((x <ℤ pos 0) × (y <ℤ pos 0)) (lt_z y (pos 0))
-behind_first x y h = record { yes' = λ t. (h, test_yes y (pos 0) t refl); no' = λ t c. clash_ℤ c.1 (test_no y (pos 0) t refl) }
-
-pub behind_not : (x y : ℤ) → pos 0 ≤ℤ x → Tells ((x <ℤ pos 0) × (y <ℤ pos 0)) false
-behind_not x y h = tells_no (λ c. clash_ℤ c.0 h)
-
 -- a side that not both ends are behind
 pub not_behind : (x y : ℤ) → ((x <ℤ pos 0) × (y <ℤ pos 0) → ⊥) → (pos 0 ≤ℤ x) ⊎ (pos 0 ≤ℤ y)
 not_behind x y f = ⊎_elim (λ h. ⊎_elim (λ k. absurd (f (h, k))) (λ k. inr k) (below_or_not y (pos 0))) (λ h. inl h) (below_or_not x (pos 0))
@@ -128,26 +122,22 @@ not_behind x y f = ⊎_elim (λ h. ⊎_elim (λ k. absurd (f (h, k))) (λ k. inr
 -- ---- going round a block
 module _ (ws : List ℕ) (a b : Point) (l r p q : ℤ) where
   -- k sides are passed
-  pub record Going (count : ℕ) (l' r' p' q' : ℤ) (k : ℕ) : Type 0 where
-    pub counted : count ≡ word ws 0
-    pub within : k ≤ count
+  pub record Going (l' r' p' q' : ℤ) (k : ℕ) : Type 0 where
     pub kept : Kept l' r' p' q'
     pub all : (u s : ℕ) → Both l' r' p' q' u s → Both l r p q u s × Around k (side_turn (corners ws) a) (side_turn (corners ws) b) u s
     pub only : (u s : ℕ) → Both l r p q u s → Around k (side_turn (corners ws) a) (side_turn (corners ws) b) u s → Both l' r' p' q' u s
 
-  pub going_none : Kept l r p q → Going (word ws 0) l r p q 0
+  pub going_none : Kept l r p q → Going l r p q 0
   going_none h =
-      record { counted = refl; within = omega arith; kept = h; all = λ u s o. (o, λ k m. absurd (none k m)); only = λ u s o i. o }
+      record { kept = h; all = λ u s o. (o, λ k m. absurd (none k m)); only = λ u s o i. o }
     where
       none : (k : ℕ) → k < 0 → ⊥
       none k h = omega arith
 
-  pub going_next : {count k : ℕ} {l' r' p' q' x y l'' r'' p'' q'' : ℤ} → Going count l' r' p' q' k → k < count
-      → side_turn (corners ws) a k ≡ x → side_turn (corners ws) b k ≡ y → Tightened l' r' p' q' x y l'' r'' p'' q'' → Going count l'' r'' p'' q'' (k + 1)
-  going_next {k} {x} {y} g h ex ey m =
+  pub going_next : {k : ℕ} {l' r' p' q' x y l'' r'' p'' q'' : ℤ} → Going l' r' p' q' k
+      → side_turn (corners ws) a k ≡ x → side_turn (corners ws) b k ≡ y → Tightened l' r' p' q' x y l'' r'' p'' q'' → Going l'' r'' p'' q'' (k + 1)
+  going_next {k} {x} {y} g ex ey m =
       record {
-        counted = g.counted;
-        within = omega arith;
         kept = record { small = m.small; ends = m.side.ends };
         all = λ u s o.
             let n = m.side.all u s o in
@@ -157,49 +147,25 @@ module _ (ws : List ℕ) (a b : Point) (l r p q : ℤ) where
       }
 
   -- every side is passed
-  pub going_all : {count k : ℕ} {l' r' p' q' : ℤ} {t : Bool} → Going count l' r' p' q' k → 0 < count → count ≤ k → Tells (Common l' r' p' q') t → Reached ws a b l r p q t l' r' p' q'
-  unfolding Common
-  going_all {count} {k} {l'} {r'} {p'} {q'} {t} g o h m =
-      record {
-        kept = g.kept;
-        some = m.yes';
-        all = λ e u s w n. inner u s n;
-        only = λ u s w n i. let c = outer u s n i in (yes_of u s w c, c);
-      }
-    where
-      same : k ≡ word ws 0
-      same = omega (arith, g.counted, g.within)
+  module _ {k : ℕ} {l' r' p' q' : ℤ} (g : Going l' r' p' q' k) (e : k ≡ word ws 0) where
+    pub going_left : 0 < word ws 0 → Common l' r' p' q' → Left ws a b l r p q l' r' p' q'
+    going_left o c =
+        record {
+          kept = g.kept;
+          some = c;
+          all = λ u s w n. let i = g.all u s n in (i.0, record { stands = o; around = λ j z. i.1 j (omega arith) });
+          only = λ u s w n i. g.only u s n (λ j z. i.around j (omega arith));
+        }
 
-      inner : (u s : ℕ) → Both l' r' p' q' u s → Both l r p q u s × Touched ws a b u s
-      inner u s n = let i = g.all u s n in (i.0, record { stands = omega (arith, g.counted); around = λ j z. i.1 j (omega (arith, same)) })
+    pub going_gone : (Common l' r' p' q' → ⊥) → (u s : ℕ) → 1 ≤ u + s → Both l r p q u s → Touched ws a b u s → ⊥
+    unfolding Common
+    going_gone f u s w n i = f (u, s, w, g.only u s n (λ j z. i.around j (omega arith)))
 
-      outer : (u s : ℕ) → Both l r p q u s → Touched ws a b u s → Both l' r' p' q' u s
-      outer u s n i = g.only u s n (λ j z. i.around j (omega (arith, same)))
+-- the block is not reached
+pub unreached_absent : (ws : List ℕ) (a b : Point) (u s : ℕ) → word ws 0 ≡ 0 → Touched ws a b u s → ⊥
+unreached_absent ws a b u s e i = omega (arith, i.stands)
 
-      answer : (u s : ℕ) → 1 ≤ u + s → Both l' r' p' q' u s → (v : Bool) → t ≡ v → t ≡ true
-      answer u s w c true e = e
-      answer u s w c false e = absurd (m.no' e (u, s, w, c))
-
-      yes_of : (u s : ℕ) → 1 ≤ u + s → Both l' r' p' q' u s → t ≡ true
-      yes_of u s w c = answer u s w c t refl
-
-  -- the block is not reached
-  pub unreached : Kept l r p q → ((u s : ℕ) → 1 ≤ u + s → Touched ws a b u s → ⊥) → Reached ws a b l r p q false l r p q
-  unreached h f =
-      record {
-        kept = h;
-        some = λ e. absurd (true≢false (sym e));
-        all = λ e. absurd (true≢false (sym e));
-        only = λ u s w n i. absurd (f u s w i);
-      }
-
-  pub unreached_absent : Kept l r p q → word ws 0 ≡ 0 → Reached ws a b l r p q false l r p q
-  unreached_absent h e = unreached h (λ u s w i. none i.stands)
-    where
-      none : 0 < word ws 0 → ⊥
-      none o = omega arith
-
-  pub unreached_behind : {count k : ℕ} {l' r' p' q' x y : ℤ} → Kept l r p q → Going count l' r' p' q' k → k < count
-      → side_turn (corners ws) a k ≡ x → side_turn (corners ws) b k ≡ y → (x <ℤ pos 0) × (y <ℤ pos 0) → Reached ws a b l r p q false l r p q
-  unreached_behind {count} {k} h g n ex ey z =
-      unreached h (λ u s w i. on_neither u s (side_turn (corners ws) a k) (side_turn (corners ws) b k) w (rw ex z.0) (rw ey z.1) (i.around k (omega (arith, g.counted))))
+pub unreached_behind : (ws : List ℕ) (a b : Point) {k u s : ℕ} {x y : ℤ} → k < word ws 0 → side_turn (corners ws) a k ≡ x → side_turn (corners ws) b k ≡ y
+    → (x <ℤ pos 0) × (y <ℤ pos 0) → 1 ≤ u + s → Touched ws a b u s → ⊥
+unreached_behind ws a b {k} {u} {s} n ex ey z w i =
+    on_neither u s (side_turn (corners ws) a k) (side_turn (corners ws) b k) w (rw ex z.0) (rw ey z.1) (i.around k n)

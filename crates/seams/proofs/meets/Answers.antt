@@ -1,28 +1,42 @@
-use lib.IntN.{pos}
+use mathlib.Core.Bool.{true≢false}
+use mathlib.Core.Path.{sym, ◌∙◌}
+use lib.IntN.{ℤ, pos}
 use lib.Dec.{lit<}
+use mir.Syntax.{w64}
+use mir.Val.{SFits}
 use Rattle.lists.proofs.Telling.{tells_yes}
+use Rattle.geometry.specs.inner.Sides.{Within}
 use Rattle.geometry.proofs.Bound.{here_yes, here_no, fits_zero, within_fits}
 use Rattle.geometry.proofs.Narrowing.{steeper_yes, steeper_no}
 use Rattle.seams.proofs.Rounds.{common_first, common_last, common_tells}
 use Rattle.seams.proofs.meets.Goals as goal
+use Rattle.seams.proofs.meets.Goals.{then-s-lt0, else-s-lt0, then-s-lt0-2, else-s-lt0-2}
 
-pub returns-then-q-lt0 : goal.returns-then-q-lt0
-returns-then-q-lt0 c =
+fits : {z : ℤ} → Within 2200000000 z → SFits w64 z
+fits w = within_fits w (lit< tt)
+
+pub returns : goal.returns
+returns c =
     let n = c.requires.small in
-    let fl = within_fits n.small_l (lit< tt) in
-    let fr = within_fits n.small_r (lit< tt) in
-    let fp = within_fits n.small_p (lit< tt) in
-    let fq = within_fits n.small_q (lit< tt) in
-    common_tells _ _ _ _ c.requires.ends c.steeper.result
-    (here_yes _ (pos 0) fl fits_zero c.if-l-lt0.true)
-    (here_yes _ (pos 0) fq fits_zero c.if-q-lt0.true)
-    (steeper_yes _ _ _ _ fp fq fl fr c.steeper.ensures)
-    (steeper_no _ _ _ _ fp fq fl fr c.steeper.ensures)
-
-pub returns-else-q-lt0 : goal.returns-else-q-lt0
-returns-else-q-lt0 c =
-    tells_yes (common_last _ _ _ _ c.requires.ends (here_no _ (pos 0) (within_fits c.requires.small.small_q (lit< tt)) fits_zero c.if-q-lt0.false))
-
-pub returns-else-l-lt0 : goal.returns-else-l-lt0
-returns-else-l-lt0 c =
-    tells_yes (common_first _ _ _ _ c.requires.ends (here_no _ (pos 0) (within_fits c.requires.small.small_l (lit< tt)) fits_zero c.if-l-lt0.false))
+    let fl = fits n.small_l in
+    let fr = fits n.small_r in
+    let fp = fits n.small_p in
+    let fq = fits n.small_q in
+    let e = c.requires.ends in
+    elim c.if-s-lt0-2.branch [
+      | then-s-lt0-2 w ↦ rw w.result-is
+          (elim c.if-s-lt0.branch [
+            | then-s-lt0 v ↦ common_tells _ _ _ _ e w.steeper.result
+                (here_yes _ (pos 0) fl fits_zero v.if-s-lt0.true)
+                (here_yes _ (pos 0) fq fits_zero (sym v.value-is ∙ w.if-s-lt0-2.true))
+                (steeper_yes _ _ _ _ fp fq fl fr w.steeper.ensures)
+                (steeper_no _ _ _ _ fp fq fl fr w.steeper.ensures)
+            | else-s-lt0 v ↦ absurd (true≢false (sym w.if-s-lt0-2.true ∙ v.value-is ∙ v.if-s-lt0.false))
+          ])
+      | else-s-lt0-2 w ↦ rw (w.result-is, w.if-s-lt0-2.false)
+          (tells_yes
+          (elim c.if-s-lt0.branch [
+            | then-s-lt0 v ↦ common_last _ _ _ _ e (here_no _ (pos 0) fq fits_zero (sym v.value-is ∙ w.if-s-lt0-2.false))
+            | else-s-lt0 v ↦ common_first _ _ _ _ e (here_no _ (pos 0) fl fits_zero v.if-s-lt0.false)
+          ]))
+    ]

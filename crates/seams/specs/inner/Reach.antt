@@ -1,8 +1,9 @@
 -- What the search for a seam keeps of the sides that it has passed, and what its functions answer. The turns of a segment's ends against a side are x and y.
-use Rattle.std.specs.Prelude.{◌≡◌, Bool, true, List, ◌⊎◌, ℕ, ◌+◌, ◌<◌, ◌≤◌, ℤ, pos, ◌+ℤ◌, ◌*ℤ◌, ◌<ℤ◌, ◌≤ℤ◌}
+use Rattle.std.specs.Prelude.{List, Option, Some, None, ◌⊎◌, ℕ, ◌+◌, ◌<◌, ◌≤◌, ℤ, pos, ◌+ℤ◌, ◌*ℤ◌, ◌<ℤ◌, ◌≤ℤ◌}
 use Rattle.geometry.specs.Words.{Point, word, block_words, corners}
 use Rattle.geometry.specs.Obstruction.{side_turn}
 use Rattle.geometry.specs.inner.Sides.{Small}
+use Rattle.geometry.specs.declared.Span.{Span}
 
 -- the point with the weights u and s of the two ends is left of the side or on it
 abbrev pub On : ℕ → ℕ → ℤ → ℤ → Type 0
@@ -50,12 +51,24 @@ pub record Tightened (l r p q x y l' r' p' q' : ℤ) : Type 0 where
 unfoldable pub Common : ℤ → ℤ → ℤ → ℤ → Type 0
 Common l r p q = (u : ℕ) × (s : ℕ) × (1 ≤ u + s) × Both l r p q u s
 
--- the kept sides after every side of a block; t says whether some point is left
-pub record Reached (ws : List ℕ) (a b : Point) (l r p q : ℤ) (t : Bool) (l' r' p' q' : ℤ) : Type 0 where
+-- the kept sides after every side of a block that is met
+pub record Left (ws : List ℕ) (a b : Point) (l r p q l' r' p' q' : ℤ) : Type 0 where
   pub kept : Kept l' r' p' q'
-  pub some : t ≡ true → Common l' r' p' q'
-  pub all : t ≡ true → (u s : ℕ) → 1 ≤ u + s → Both l' r' p' q' u s → Both l r p q u s × Touched ws a b u s
-  pub only : (u s : ℕ) → 1 ≤ u + s → Both l r p q u s → Touched ws a b u s → (t ≡ true) × Both l' r' p' q' u s
+  pub some : Common l' r' p' q'
+  pub all : (u s : ℕ) → 1 ≤ u + s → Both l' r' p' q' u s → Both l r p q u s × Touched ws a b u s
+  pub only : (u s : ℕ) → 1 ≤ u + s → Both l r p q u s → Touched ws a b u s → Both l' r' p' q' u s
+
+-- ---- of the code's struct
+abbrev pub KeptSpan : Span → Type 0
+KeptSpan s = Kept s.l s.r s.p s.q
+
+abbrev pub TightenedSpan : Span → ℤ → ℤ → Span → Type 0
+TightenedSpan s x y s' = Tightened s.l s.r s.p s.q x y s'.l s'.r s'.p s'.q
+
+-- what a block leaves of the points between the sides kept before: those between the sides kept now, or none
+abbrev pub Reached : List ℕ → Point → Point → Span → Option Span → Type 0
+Reached ws a b s (Some s') = Left ws a b s.l s.r s.p s.q s'.l s'.r s'.p s'.q
+Reached ws a b s None = (u v : ℕ) → 1 ≤ u + v → Both s.l s.r s.p s.q u v → Touched ws a b u v → ⊥
 
 -- some point that is on the inner side of both kept sides belongs to the block whose record is ws
 pub record Meeting (ws : List ℕ) (a b : Point) (l r p q : ℤ) : Type 0 where
