@@ -2,18 +2,16 @@
 use mathlib.Core.Path.{◌≡◌, refl, sym, ap, ◌∙◌, subst}
 use mathlib.Core.Bool.{Bool, true, false, not, true≢false}
 use mathlib.Core.List.{List}
+use mathlib.Core.Logic.{◌⊎◌, ⊎_elim}
 use Prim.Native.Nat.{ℕ, ◌+◌, ◌*◌, ◌<◌, ◌≤◌, max, min}
 use native.Mathlib.Nat.{min-le_left, min-le_right}
 use native.Mathlib.Decide.{dec_lt}
 use native.Mathlib.Omega.{arith}
+use borrow.Author.Count.{below_more}
 use lib.IntN.{ℤ, pos}
 use lib.Signed.{lt_z}
 use lib.ListN.{length, set, length-set}
 use lib.Seq.{get_or-set_same, get_or-set_other}
-use Rattle.lists.specs.inner.Tells.{Tells}
-use Rattle.lists.proofs.Telling.{denied}
-use Rattle.coordinates.specs.inner.Scans.{Past, CornerPast}
-use Rattle.coordinates.proofs.Scanning.{some_at}
 use Rattle.geometry.specs.Words.{Point, word, block_words, corners}
 use Rattle.geometry.specs.Obstruction.{corner_at, side_turn}
 use Rattle.geometry.specs.inner.Bounds.{BoundedRecord}
@@ -21,7 +19,9 @@ use Rattle.geometry.proofs.Bound.{test_yes}
 use Rattle.geometry.proofs.Corners.{places_length, corner_is}
 use Rattle.geometry.proofs.Searching.{part, part_is}
 use Rattle.seams.specs.inner.Near.{Alone, Near}
-use Rattle.neighbours.specs.inner.Rectangles.{Solid, Reaches, Leaves, Beyond, Apart, Parted, Low, High, Listed}
+use Rattle.neighbours.specs.inner.Rectangles.{Solid, Further, Reaches, Leaves, Ends, Beyond, Apart, Parted, Low, High, Bound, Listed}
+use Rattle.neighbours.specs.declared.End.{End}
+use Rattle.neighbours.specs.declared.End.TheVariants.{Least, Greatest}
 use Rattle.neighbours.proofs.Enclosing.{Encloses, encloses_east, encloses_north, divided}
 
 -- a test that answers no promises nothing
@@ -32,51 +32,33 @@ unsaid e = absurd (true≢false (sym e))
 pub solid_told : (ws : List ℕ) (p : Point) {z : ℤ} → 3 ≤ word ws 0 → p ≡ corner_at (corners ws) 2 → z ≡ side_turn (corners ws) p 0 → lt_z (pos 0) z ≡ true → Solid (corners ws)
 solid_told ws p {z} h e s t = record { three = rw (places_length ws 1 (word ws 0)) h; turns = rw e at (test_yes (pos 0) (side_turn (corners ws) p 0) t (ap (lt_z (pos 0)) s)) }
 
--- ---- the greatest coordinate, after k corners
-pub record ReachesTo (ws : List ℕ) (i count far k : ℕ) : Type 0 where
-  pub counted : count ≡ word ws 0
-  pub small : far ≤ 32767
-  pub each : (j : ℕ) → j < k → word ws (2 * j + i) ≤ far
+-- ---- an end of the corners, after k of them
+abbrev Past : End → ℕ → ℕ → Type 0
+Past Least m w = m ≤ w
+Past Greatest m w = w ≤ m
 
-pub reach_next : {ws : List ℕ} {i count far far' k : ℕ} → BoundedRecord ws → i ≤ 2 → ReachesTo ws i count far k → k < count → far' ≡ max far (word ws (2 * k + i)) → ReachesTo ws i count far' (k + 1)
-reach_next {ws} {i} {count} {far} {far'} {k} b l r h e =
-    record {
-      counted = r.counted;
-      small = omega (arith, r.small, b.coordinates (2 * k + i) (omega (arith, r.counted, b.count)));
-      each = λ j g. elim (dec_lt j k) [ yes m ↦ omega (arith, r.each j m) | no m ↦ let q : j ≡ k = omega arith in rw q (omega arith) ];
-    }
+further_past : (end : End) (v w m : ℕ) → Further end v w m → Past end m w
+further_past Least v w m e = omega (arith, min-le_right v w)
+further_past Greatest v w m e = omega arith
 
-pub reach_all : {ws : List ℕ} {i count far k : ℕ} → ReachesTo ws i count far k → count ≤ k → Reaches ws i far
-reach_all r h = record { each = λ j g. r.each j (omega (arith, r.counted)) }
+still_past : (end : End) (u v w m : ℕ) → Further end v w m → Past end v u → Past end m u
+still_past Least u v w m e h = omega (arith, min-le_left v w)
+still_past Greatest u v w m e h = omega arith
 
--- the least
-pub record LeavesTo (ws : List ℕ) (i count near k : ℕ) : Type 0 where
-  pub counted : count ≡ word ws 0
-  pub small : near ≤ 65535
-  pub each : (j : ℕ) → j < k → near ≤ word ws (2 * j + i)
+abbrev pub EndsTo : List ℕ → ℕ → End → ℕ → ℕ → Type 0
+EndsTo ws i end m k = (j : ℕ) → j < k → Past end m (word ws (2 * j + i))
 
-pub leave_next : {ws : List ℕ} {i count near near' k : ℕ} → LeavesTo ws i count near k → near' ≡ min near (word ws (2 * k + i)) → LeavesTo ws i count near' (k + 1)
-leave_next {ws} {i} {count} {near} {near'} {k} r e =
-    let l : near' ≤ near = omega (arith, min-le_left near (word ws (2 * k + i))) in
-    let m : near' ≤ word ws (2 * k + i) = omega (arith, min-le_right near (word ws (2 * k + i))) in
-    record {
-      counted = r.counted;
-      small = omega (arith, r.small);
-      each = λ j g. elim (dec_lt j k) [ yes h ↦ omega (arith, r.each j h) | no h ↦ let q : j ≡ k = omega arith in rw q m ];
-    }
+pub ends_next : (ws : List ℕ) (i : ℕ) (end : End) (v : ℕ) (k m : ℕ) → EndsTo ws i end v k → Further end v (word ws (2 * k + i)) m → EndsTo ws i end m (k + 1)
+ends_next ws i end v k m f e =
+    below_more (λ (j : ℕ). Past end m (word ws (2 * j + i))) k (λ j h. still_past end _ _ _ _ e (f j h)) (further_past end _ _ _ e)
 
-pub leave_all : {ws : List ℕ} {i count near k : ℕ} → LeavesTo ws i count near k → count ≤ k → Leaves ws i near
-leave_all r h = record { each = λ j g. r.each j (omega (arith, r.counted)) }
+pub ends_all : (ws : List ℕ) (i : ℕ) (end : End) (m k : ℕ) → k ≡ word ws 0 → EndsTo ws i end m k → Ends ws i end m
+ends_all ws i Least m k e f = record { each = λ j h. f j (omega arith) }
+ends_all ws i Greatest m k e f = record { each = λ j h. f j (omega arith) }
 
 -- ---- records with a limit between them
-pub beyond_told : {ws vs : List ℕ} {i m : ℕ} {t : Bool} → Reaches ws i m → Tells (CornerPast vs i false (m + 1)) t → not t ≡ true → Beyond ws vs i
-unfolding Past
-beyond_told {ws} {vs} {i} {m} f h n =
-    record {
-      limit = m;
-      within = f;
-      past = λ k l. elim (dec_lt m (word vs (2 * k + i))) [ yes g ↦ g | no g ↦ absurd (denied h n (some_at k _ l refl (omega arith))) ];
-    }
+pub beyond_bounds : {ws vs : List ℕ} {i hi lo : ℕ} → Reaches ws i hi → Leaves vs i lo → hi < lo → Beyond ws vs i
+beyond_bounds {hi = hi} r s g = record { limit = hi; within = r; past = λ k l. omega (arith, s.each k l) }
 
 pub apart_sym : {ws vs : List ℕ} → Apart ws vs → Apart vs ws
 apart_sym a = record { apart = λ n e d h p q f g. a.apart n e d h q p g f }
@@ -100,27 +82,19 @@ pub apart_north : {ws vs : List ℕ} → Solid (corners ws) → Solid (corners v
 apart_north s t b =
     record { apart = λ n e d h p q f g. parts (λ p. p.north) 2 (λ ws k l. ap (λ (p : Point). p.north) (corner_is ws k l)) b n d h (encloses_north _ n e d h s f) (encloses_north _ n e d h t g) }
 
--- ---- the least and the greatest coordinate
-pub low_absent : {ws : List ℕ} {i : ℕ} → word ws 0 ≡ 0 → Low ws i 65535
-low_absent e = record { small = omega arith; solid = λ l p. absurd (omega arith); bound = λ l p. absurd (omega arith) }
+-- either way round
+pub divided_east : {ws vs : List ℕ} → Solid (corners ws) → Solid (corners vs) → Beyond ws vs 1 ⊎ Beyond vs ws 1 → Apart ws vs
+divided_east s t = ⊎_elim (λ b. apart_east s t b) (λ b. apart_sym (apart_east t s b))
 
-pub low_none : {ws : List ℕ} {i : ℕ} → Low ws i 0
-low_none = record { small = omega arith; solid = λ l. absurd (omega arith); bound = λ l. absurd (omega arith) }
+pub divided_north : {ws vs : List ℕ} → Solid (corners ws) → Solid (corners vs) → Beyond ws vs 2 ⊎ Beyond vs ws 2 → Apart ws vs
+divided_north s t = ⊎_elim (λ b. apart_north s t b) (λ b. apart_sym (apart_north t s b))
 
+-- ---- the bound of an end
 pub low_solid : {ws : List ℕ} {i m : ℕ} → m ≤ 65535 → Solid (corners ws) → Leaves ws i m → Low ws i m
 low_solid h s r = record { small = h; solid = λ l p. s; bound = λ l p. r }
 
-pub high_absent : {ws : List ℕ} {i : ℕ} → word ws 0 ≡ 0 → High ws i 0
-high_absent e = record { solid = λ l p. absurd (omega arith); bound = λ l p. absurd (omega arith) }
-
-pub high_none : {ws : List ℕ} {i : ℕ} → High ws i 65535
-high_none = record { solid = λ l. absurd (omega arith); bound = λ l. absurd (omega arith) }
-
 pub high_solid : {ws : List ℕ} {i m : ℕ} → Solid (corners ws) → Reaches ws i m → High ws i m
 high_solid s r = record { solid = λ l p. s; bound = λ l p. r }
-
-beyond_bounds : {ws vs : List ℕ} {i hi lo : ℕ} → Reaches ws i hi → Leaves vs i lo → hi < lo → Beyond ws vs i
-beyond_bounds {hi = hi} r s g = record { limit = hi; within = r; past = λ k l. omega (arith, s.each k l) }
 
 module _ {ws vs : List ℕ} {hi lo : ℕ} (g : hi < lo) where
   pub bounds_east : High ws 1 hi → Low vs 1 lo → Apart ws vs
@@ -142,11 +116,9 @@ parted_words blocks p q a = record { parted = λ n e d h f g. absurd (a.apart n 
 pub parted_apart : (blocks : List ℕ) (p q : ℕ) → Apart (part blocks p) (part blocks q) → Parted blocks p q
 parted_apart blocks p q a = parted_words blocks p q (rw (part_is blocks p, part_is blocks q) at a)
 
-pub low_part : (blocks : List ℕ) (p i m : ℕ) → Low (part blocks p) i m → Low (block_words blocks p) i m
-low_part blocks p i m l = rw (part_is blocks p) at l
-
-pub high_part : (blocks : List ℕ) (p i m : ℕ) → High (part blocks p) i m → High (block_words blocks p) i m
-high_part blocks p i m h = rw (part_is blocks p) at h
+pub bound_part : (blocks : List ℕ) (p i : ℕ) (end : End) (m : ℕ) → Bound (part blocks p) i end m → Bound (block_words blocks p) i end m
+bound_part blocks p i Least m l = rw (part_is blocks p) at l
+bound_part blocks p i Greatest m h = rw (part_is blocks p) at h
 
 -- block p is compared with the blocks below q
 abbrev pub PartedTo : List ℕ → ℕ → ℕ → Type 0

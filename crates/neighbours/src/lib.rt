@@ -1,56 +1,47 @@
 // Which blocks can share a place with another: compared by their enclosing rectangles, once for all straights of a call.
 #![tactic(auto)]
 
-ghost use Rattle.std.specs.Prelude.{◌≡◌, true, ◌<◌, ◌≤◌, length};
+ghost use Rattle.std.specs.Prelude.{◌≡◌, ◌⊎◌, true, ◌<◌, ◌≤◌, length};
 ghost use Rattle.geometry.specs.Words.{corners};
 ghost use Rattle.geometry.specs.inner.Bounds.{BoundedRecord, Bounded};
 ghost use Rattle.seams.specs.inner.Near.{Alone, Near};
-ghost use Rattle.neighbours.specs.inner.Rectangles.{Solid, Reaches, Leaves, Beyond, Apart, Parted, Low, High, Lows, Highs};
+ghost use Rattle.neighbours.specs.inner.Rectangles.{Solid, Further, Ends, Beyond, Apart, Parted, Bound, Bounds};
 
-use coordinates::any_past;
-use geometry::{greater, lesser};
+// An end of a block along a coordinate.
+#[derive(Clone, Copy, Debug, PartialEq, Eq)]
+pub enum End {
+    Least,
+    Greatest,
+}
 
 // Whether the first three corners of a block record turn left, as they do in every block that question 2 allows.
 fn is_solid(words: &[u16]) -> bool
     requires { BoundedRecord words.now }
     ensures { result ≡ true → Solid (corners words.now) }
 {
-    if (words[0] as usize) < 3 {
-        return false;
-    }
-    0 < geometry::side(words, 0, geometry::corner(words, 2))
+    3 <= words[0] && 0 < geometry::side(words, 0, geometry::corner(words, 2))
 }
 
-// The greatest coordinate of the corners of a block record: east where i is 1, north where it is 2.
-fn furthest(words: &[u16], i: usize) -> u16
-    requires { (BoundedRecord words.now) × (i ≤ 2) }
-    ensures reach { Reaches words.now i result }
-    ensures small { result ≤ 32767 }
+// Of two coordinates, the one further towards an end.
+fn further(end: End, v: u16, w: u16) -> u16
+    ensures { Further end v w result }
 {
-    let count = words[0] as usize;
-    let mut far = 0;
-    let mut k = 0;
-    while k < count {
-        far = greater(far, words[2 * k + i]);
-        k += 1;
+    match end {
+        End::Least => v.min(w),
+        End::Greatest => v.max(w),
+    }
+}
+
+// The end of a block record along a coordinate, east where i is 1, north where it is 2; `start` is at the other end of all.
+fn reach(words: &[u16], i: usize, end: End, start: u16) -> u16
+    requires { (BoundedRecord words.now) × (i ≤ 2) }
+    ensures { Ends words.now i end result }
+{
+    let mut far = start;
+    for k in 0..words[0] as usize {
+        far = further(end, far, words[2 * k + i]);
     }
     far
-}
-
-// The least coordinate of the corners of a block record.
-fn nearest(words: &[u16], i: usize) -> u16
-    requires { (BoundedRecord words.now) × (i ≤ 2) }
-    ensures reach { Leaves words.now i result }
-    ensures small { result ≤ 65535 }
-{
-    let count = words[0] as usize;
-    let mut near = 65535;
-    let mut j = 0;
-    while j < count {
-        near = lesser(near, words[2 * j + i]);
-        j += 1;
-    }
-    near
 }
 
 // Whether every corner of q lies beyond every corner of p along a coordinate.
@@ -58,7 +49,15 @@ fn is_beyond(p: &[u16], q: &[u16], i: usize) -> bool
     requires { (BoundedRecord p.now) × (BoundedRecord q.now) × (i ≤ 2) }
     ensures { result ≡ true → Beyond p.now q.now i }
 {
-    !any_past(q, i, false, furthest(p, i) + 1)
+    reach(p, i, End::Greatest, 0) < reach(q, i, End::Least, 65535)
+}
+
+// Whether two block records lie apart along a coordinate.
+fn is_divided(p: &[u16], q: &[u16], i: usize) -> bool
+    requires { (BoundedRecord p.now) × (BoundedRecord q.now) × (i ≤ 2) }
+    ensures { result ≡ true → Beyond p.now q.now i ⊎ Beyond q.now p.now i }
+{
+    is_beyond(p, q, i) || is_beyond(q, p, i)
 }
 
 // Whether no place belongs to both of two block records: one is absent, or their enclosing rectangles do not touch.
@@ -66,28 +65,10 @@ fn is_apart(p: &[u16], q: &[u16]) -> bool
     requires { (BoundedRecord p.now) × (BoundedRecord q.now) }
     ensures { result ≡ true → Apart p.now q.now }
 {
-    if p[0] == 0 {
+    if p[0] == 0 || q[0] == 0 {
         return true;
     }
-    if q[0] == 0 {
-        return true;
-    }
-    if !is_solid(p) {
-        return false;
-    }
-    if !is_solid(q) {
-        return false;
-    }
-    if is_beyond(p, q, 1) {
-        return true;
-    }
-    if is_beyond(q, p, 1) {
-        return true;
-    }
-    if is_beyond(p, q, 2) {
-        return true;
-    }
-    is_beyond(q, p, 2)
+    is_solid(p) && is_solid(q) && (is_divided(p, q, 1) || is_divided(p, q, 2))
 }
 
 // Whether blocks p and q are one block or share no place.
@@ -95,10 +76,7 @@ fn is_parted(blocks: &[u16], p: usize, q: usize) -> bool
     requires { (Bounded blocks.now) × (p < 24) × (q < 24) }
     ensures { result ≡ true → Parted blocks.now p q }
 {
-    if p == q {
-        return true;
-    }
-    is_apart(&blocks[17 * p..17 * p + 17], &blocks[17 * q..17 * q + 17])
+    p == q || is_apart(&blocks[17 * p..17 * p + 17], &blocks[17 * q..17 * q + 17])
 }
 
 // Whether block p shares no place with another.
@@ -106,12 +84,10 @@ fn is_alone(blocks: &[u16], p: usize) -> bool
     requires { (Bounded blocks.now) × (p < 24) }
     ensures { result ≡ true → Alone blocks.now p }
 {
-    let mut q = 0;
-    while q < 24 {
+    for q in 0..24 {
         if !is_parted(blocks, p, q) {
             return false;
         }
-        q += 1;
     }
     true
 }
@@ -121,7 +97,7 @@ fn mark(blocks: &[u16], p: usize) -> u8
     requires { (Bounded blocks.now) × (p < 24) }
     ensures { result ≡ 0 → Alone blocks.now p }
 {
-    if is_alone(blocks, p) { 0 } else { 1 }
+    u8::from(!is_alone(blocks, p))
 }
 
 // For each block, 0 where it shares no place with another.
@@ -129,62 +105,36 @@ pub fn mark_near(blocks: &[u16], near: &mut [u8])
     requires { (Bounded blocks.now) × (length near.old ≡ 24) }
     ensures { Near blocks.now near.new }
 {
-    let mut p = 0;
-    while p < 24 {
-        near[p] = mark(blocks, p);
-        p += 1;
+    for (p, is_near) in near.iter_mut().enumerate() {
+        *is_near = mark(blocks, p);
     }
 }
 
-// The least coordinate of a block record that is present and solid. An absent one lies past everything, and one that is not
-// solid has no bound.
-fn low(words: &[u16], i: usize) -> u16
+// An end of a block record that is present and solid. An absent one lies past everything, and one that is not solid has no
+// bound.
+fn bound(words: &[u16], i: usize, end: End) -> u16
     requires { (BoundedRecord words.now) × (i ≤ 2) }
-    ensures { Low words.now i result }
+    ensures { Bound words.now i end result }
 {
+    let (absent, unbounded) = match end {
+        End::Least => (65535, 0),
+        End::Greatest => (0, 65535),
+    };
     if words[0] == 0 {
-        return 65535;
+        return absent;
     }
     if !is_solid(words) {
-        return 0;
+        return unbounded;
     }
-    nearest(words, i)
+    reach(words, i, end, absent)
 }
 
-// The greatest one, in the same way.
-fn high(words: &[u16], i: usize) -> u16
-    requires { (BoundedRecord words.now) × (i ≤ 2) }
-    ensures { High words.now i result }
+// That end of each block.
+pub fn mark_bounds(blocks: &[u16], i: usize, end: End, bounds: &mut [u16])
+    requires { (Bounded blocks.now) × (i ≤ 2) × (length bounds.old ≡ 24) }
+    ensures { Bounds blocks.now i end bounds.new }
 {
-    if words[0] == 0 {
-        return 0;
-    }
-    if !is_solid(words) {
-        return 65535;
-    }
-    furthest(words, i)
-}
-
-// The least coordinate of each block.
-pub fn mark_lows(blocks: &[u16], i: usize, lows: &mut [u16])
-    requires { (Bounded blocks.now) × (i ≤ 2) × (length lows.old ≡ 24) }
-    ensures { Lows blocks.now i lows.new }
-{
-    let mut p = 0;
-    while p < 24 {
-        lows[p] = low(&blocks[17 * p..17 * p + 17], i);
-        p += 1;
-    }
-}
-
-// The greatest coordinate of each block.
-pub fn mark_highs(blocks: &[u16], i: usize, highs: &mut [u16])
-    requires { (Bounded blocks.now) × (i ≤ 2) × (length highs.old ≡ 24) }
-    ensures { Highs blocks.now i highs.new }
-{
-    let mut p = 0;
-    while p < 24 {
-        highs[p] = high(&blocks[17 * p..17 * p + 17], i);
-        p += 1;
+    for (p, at) in bounds.iter_mut().enumerate() {
+        *at = bound(&blocks[17 * p..17 * p + 17], i, end);
     }
 }

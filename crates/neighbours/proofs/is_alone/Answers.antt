@@ -1,16 +1,10 @@
 use borrow.Author.Tests.{not-false}
 use native.Mathlib.Omega.{arith}
-use Rattle.neighbours.proofs.Answers.{unsaid, parted_next, parted_all}
+use Rattle.neighbours.proofs.Answers.{parted_next, parted_all}
 use Rattle.neighbours.proofs.is_alone.Goals as goal
-
-pub loop-q-init : goal.loop-q-init
-loop-q-init c k h = omega arith
-
-pub returns-then-not-is_parted : goal.returns-then-not-is_parted
-returns-then-not-is_parted c = unsaid
 
 pub loop-q-preserved : goal.loop-q-preserved
 loop-q-preserved c = parted_next _ _ _ c.loop-q.invariant (c.is_parted.ensures (not-false _ c.if-not-is_parted.false-raw))
 
 pub returns : goal.returns
-returns c = λ e. parted_all _ _ _ c.loop-q.invariant c.loop-q-test.false
+returns c = λ e. parted_all _ _ _ c.loop-q.invariant (omega arith)

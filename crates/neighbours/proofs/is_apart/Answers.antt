@@ -1,25 +1,19 @@
-use borrow.Author.Tests.{not-false}
-use Rattle.neighbours.proofs.Answers.{unsaid, apart_east, apart_north, apart_sym}
+use mathlib.Core.Bool.{true≢false}
+use mathlib.Core.Path.{sym, ◌∙◌}
+use Rattle.neighbours.proofs.Answers.{divided_east, divided_north}
 use Rattle.neighbours.proofs.is_apart.Goals as goal
+use Rattle.neighbours.proofs.is_apart.Goals.{then-is_solid, else-is_solid}
 
-pub returns-then-not-is_solid : goal.returns-then-not-is_solid
-returns-then-not-is_solid c = unsaid
+pub returns-then-is_divided : goal.returns-then-is_divided
+returns-then-is_divided c e =
+    elim c.if-is_solid.branch [
+      | then-is_solid w ↦ divided_east (c.is_solid.ensures w.if-is_solid.true) (w.is_solid-then-is_solid.ensures (sym w.value-is ∙ c.if-is_solid-2.true)) (c.is_divided.ensures e)
+      | else-is_solid w ↦ absurd (true≢false (sym c.if-is_solid-2.true ∙ w.value-is ∙ w.if-is_solid.false))
+    ]
 
-pub returns-then-not-is_solid-2 : goal.returns-then-not-is_solid-2
-returns-then-not-is_solid-2 c = unsaid
-
-pub returns-then-is_beyond : goal.returns-then-is_beyond
-returns-then-is_beyond c =
-    λ e. apart_east (c.is_solid.ensures (not-false _ c.if-not-is_solid.false-raw)) (c.is_solid-2.ensures (not-false _ c.if-not-is_solid-2.false-raw)) (c.is_beyond.ensures c.if-is_beyond.true)
-
-pub returns-then-is_beyond-2 : goal.returns-then-is_beyond-2
-returns-then-is_beyond-2 c =
-    λ e. apart_sym (apart_east (c.is_solid-2.ensures (not-false _ c.if-not-is_solid-2.false-raw)) (c.is_solid.ensures (not-false _ c.if-not-is_solid.false-raw)) (c.is_beyond-2.ensures c.if-is_beyond-2.true))
-
-pub returns-then-is_beyond-3 : goal.returns-then-is_beyond-3
-returns-then-is_beyond-3 c =
-    λ e. apart_north (c.is_solid.ensures (not-false _ c.if-not-is_solid.false-raw)) (c.is_solid-2.ensures (not-false _ c.if-not-is_solid-2.false-raw)) (c.is_beyond-3.ensures c.if-is_beyond-3.true)
-
-pub returns : goal.returns
-returns c =
-    λ e. apart_sym (apart_north (c.is_solid-2.ensures (not-false _ c.if-not-is_solid-2.false-raw)) (c.is_solid.ensures (not-false _ c.if-not-is_solid.false-raw)) (c.is_beyond-4.ensures e))
+pub returns-else-is_divided : goal.returns-else-is_divided
+returns-else-is_divided c e =
+    elim c.if-is_solid.branch [
+      | then-is_solid w ↦ divided_north (c.is_solid.ensures w.if-is_solid.true) (w.is_solid-then-is_solid.ensures (sym w.value-is ∙ c.if-is_solid-2.true)) (c.is_divided-else-is_divided.ensures e)
+      | else-is_solid w ↦ absurd (true≢false (sym c.if-is_solid-2.true ∙ w.value-is ∙ w.if-is_solid.false))
+    ]

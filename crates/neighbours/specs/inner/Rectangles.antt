@@ -1,5 +1,7 @@
 -- What the comparison of the enclosing rectangles of two blocks finds.
-use Rattle.std.specs.Prelude.{◌≡◌, List, ℕ, ◌+◌, ◌*◌, ◌<◌, ◌≤◌, ℤ, pos, ◌<ℤ◌, length}
+use Rattle.std.specs.Prelude.{◌≡◌, List, ℕ, ◌+◌, ◌*◌, ◌<◌, ◌≤◌, ℤ, pos, ◌<ℤ◌, length, min, max}
+use Rattle.neighbours.specs.declared.End.{End}
+use Rattle.neighbours.specs.declared.End.TheVariants.{Least, Greatest}
 use Rattle.geometry.specs.Words.{Point, word, block_words, corners}
 use Rattle.geometry.specs.Obstruction.{corner_at, side_turn}
 use Rattle.seams.specs.Seam.{Covers, Belongs}
@@ -16,6 +18,16 @@ pub record Reaches (ws : List ℕ) (i m : ℕ) : Type 0 where
 -- and none below m
 pub record Leaves (ws : List ℕ) (i m : ℕ) : Type 0 where
   pub each : (k : ℕ) → k < word ws 0 → m ≤ word ws (2 * k + i)
+
+-- of v and w, the one further towards an end
+abbrev pub Further : End → ℕ → ℕ → ℕ → Type 0
+Further Least v w m = m ≡ min v w
+Further Greatest v w m = m ≡ max v w
+
+-- no corner lies past m at an end
+abbrev pub Ends : List ℕ → ℕ → End → ℕ → Type 0
+Ends ws i Least m = Leaves ws i m
+Ends ws i Greatest m = Reaches ws i m
 
 -- along a coordinate, a limit that no corner of the first record is above, and every corner of the second
 pub record Beyond (ws vs : List ℕ) (i : ℕ) : Type 0 where
@@ -42,6 +54,11 @@ pub record High (ws : List ℕ) (i m : ℕ) : Type 0 where
   pub solid : m < 65535 → 0 < word ws 0 → Solid (corners ws)
   pub bound : m < 65535 → 0 < word ws 0 → Reaches ws i m
 
+-- the bound of an end
+abbrev pub Bound : List ℕ → ℕ → End → ℕ → Type 0
+Bound ws i Least m = Low ws i m
+Bound ws i Greatest m = High ws i m
+
 -- a list of 24 words, of which the first n are right for their numbers
 pub record Listed (P : ℕ → ℕ → Type 0) (t : List ℕ) (n : ℕ) : Type 0 where
   pub sized : length t ≡ 24
@@ -54,3 +71,7 @@ Lows blocks i t = Listed (λ k m. Low (block_words blocks k) i m) t 24
 -- a bound from above
 abbrev pub Highs : List ℕ → ℕ → List ℕ → Type 0
 Highs blocks i t = Listed (λ k m. High (block_words blocks k) i m) t 24
+
+-- a bound at an end for each block
+abbrev pub Bounds : List ℕ → ℕ → End → List ℕ → Type 0
+Bounds blocks i end t = Listed (λ k m. Bound (block_words blocks k) i end m) t 24
