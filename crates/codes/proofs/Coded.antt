@@ -1,50 +1,38 @@
 -- What the codes of both ends say of hiding.
-use mathlib.Core.Path.{◌≡◌, refl, sym, ap, ◌∙◌, subst}
+use mathlib.Core.Path.{◌≡◌, sym, ap, ◌∙◌}
+use mathlib.Core.Bool.{Bool, true, false}
 use mathlib.Core.Logic.{◌↔◌}
+use denote.Enum.Bare.{sameb}
+use Rattle.codes.specs.contracts.Side.{the_type}
 use mathlib.Core.List.{List}
-use Prim.Native.Nat.{ℕ, zero, suc, ◌+◌, ◌*◌, ◌-◌, ◌%◌, ◌<◌, ◌≤◌, min}
+use Prim.Native.Nat.{ℕ, zero, suc, ◌+◌, ◌-◌, ◌%◌, ◌<◌, ◌≤◌, min}
 use native.Mathlib.Decide.{dec_lt}
 use native.Mathlib.Nat.{min-eq_left, min-eq_right, min-le_left, min-le_right}
 use native.Mathlib.Omega.{arith}
 use lib.Bits.{bit_and, and_comm, and_mask, and_le_l}
-use lib.IntN.{ℤ, pos}
+use lib.IntN.{pos}
 use lib.Signed.{◌<ℤ◌, ◌≤ℤ◌, clash_ℤ}
 use lib.ListN.{length}
 use Rattle.geometry.specs.Words.{Point, word, corners}
-use Rattle.geometry.specs.Obstruction.{corner_at, next_corner, side_turn, Obstructs}
+use Rattle.geometry.specs.Obstruction.{turn, corner_at, next_corner, side_turn, Obstructs}
 use Rattle.geometry.proofs.Signed.{lt_le}
 use Rattle.geometry.proofs.Corners.{places_length, corner_read}
 use Rattle.geometry.proofs.Obstructing.{obstructs_iff, obstructs_sym}
 use Rattle.seams.specs.inner.Reach.{Touched, Around}
 use Rattle.bits.specs.inner.Bits.{bit}
 use Rattle.bits.proofs.Counting.{bit_and_lem, bit_small, bit_zero}
-use Rattle.codes.specs.inner.Codes.{outside, bit_side, code_of, Starts, Ends, SideIs, CornerSide, CodesAre, Hiding, Missed, Met}
+use Rattle.codes.specs.declared.Side.{Side}
+use Rattle.codes.specs.declared.Side.TheVariants.{Right, On, Left}
+use Rattle.codes.specs.declared.Meeting.TheVariants.{Misses, Touches, Hides}
+use Rattle.codes.specs.inner.Codes.{outside, bit_side, code_of, Starts, Ends, CornerSide, CodesAre, Hiding, Missed, Met}
 use Rattle.codes.proofs.Coding.{out_yes, out_no, code_bit, code_low, code_absent, some_bit}
 use Rattle.codes.proofs.Crosses.{turn_at}
 use Rattle.codes.proofs.Rounds.{Round, round_of, next_up, next_end}
 use Rattle.codes.proofs.Cone.{corner_left, corner_right, touched_left, touched_right, between_corners}
 
--- ---- the side of a straight, by the turn
-module _ {z v : ℤ} (e : z ≡ v) where
-  pub side_right : z <ℤ pos 0 → SideIs v 0
-  side_right h = subst (λ (x : ℤ). SideIs x 0) e (record { small = omega arith; right = λ e. h; left = λ e. absurd (omega arith); not_right = λ l. absurd (omega arith); not_left = λ l. lt_le h })
-
-  pub side_left : pos 0 <ℤ z → SideIs v 2
-  side_left h = subst (λ (x : ℤ). SideIs x 2) e (record { small = omega arith; right = λ e. absurd (omega arith); left = λ e. h; not_right = λ l. lt_le h; not_left = λ l. absurd (omega arith) })
-
-  pub side_on : pos 0 ≤ℤ z → z ≤ℤ pos 0 → SideIs v 1
-  side_on h k = subst (λ (x : ℤ). SideIs x 1) e (record { small = omega arith; right = λ e. absurd (omega arith); left = λ e. absurd (omega arith); not_right = λ l. h; not_left = λ l. k })
-
--- ---- answers
-module _ (ws : List ℕ) (a b : Point) where
-  answer_hidden : 0 < word ws 0 → Obstructs (corners ws) a b → Met ws a b 2
-  answer_hidden s o = record { hides = λ e. (s, o); spares = λ f h. f refl; misses = λ e. absurd (omega arith) }
-
-  answer_open : (Hiding ws a b → ⊥) → Met ws a b 1
-  answer_open f = record { hides = λ e. absurd (omega arith); spares = λ e. f; misses = λ e. absurd (omega arith) }
-
-  answer_missed : (Hiding ws a b → ⊥) → Missed ws a b → Met ws a b 0
-  answer_missed f g = record { hides = λ e. absurd (omega arith); spares = λ e. f; misses = λ e. g }
+-- the derived `==`
+abbrev pub same : Side → Side → Bool
+same = sameb the_type
 
 -- ---- corner r stands between side before and side r, where the bits differ
 record Turning (m r : ℕ) : Type 0 where
@@ -122,9 +110,6 @@ module _ {ws : List ℕ} {ci cj : ℕ} {a b : Point} (d : CodesAre ws ci cj a b)
       let k = beside_side f h.0 in
       ((obstructs_iff (corners ws) a b).0 h.1).each k.0 (rw counted k.1) k.2 k.3
 
-  pub met_beside : (bit_and ci cj ≡ 0 → ⊥) → Met ws a b 1
-  met_beside f = answer_open ws a b (shared f)
-
   -- ---- a code of 0: the end itself is inside
   inside : (c : ℕ) (p q : Point) → c ≡ code_of ws p → c ≡ 0 → Obstructs (corners ws) p q
   inside c p q e z = (obstructs_iff (corners ws) p q).1 (record { each = λ k h x y. clash_ℤ (left k h) x; pairs = λ i j h l x y. clash_ℤ (left i h) x })
@@ -135,11 +120,11 @@ module _ {ws : List ℕ} {ci cj : ℕ} {a b : Point} (d : CodesAre ws ci cj a b)
           let m : bit_side (word ws 0) k ≡ k = min-eq_left (omega arith) in
           rw m at (none_is c p e (stood c p e (omega arith)) k (omega (arith, d.right.bounded.count)) (ap (bit k) z ∙ bit_zero k))
 
-  pub first_inside : ci ≡ 0 → Met ws a b 2
-  first_inside z = answer_hidden ws a b (stood ci a d.first (omega arith)) (inside ci a b d.first z)
+  pub first_inside : ci ≡ 0 → Hiding ws a b
+  first_inside z = (stood ci a d.first (omega arith), inside ci a b d.first z)
 
-  pub last_inside : cj ≡ 0 → Met ws a b 2
-  last_inside z = answer_hidden ws a b (stood cj b d.last (omega arith)) (obstructs_sym (corners ws) b a (inside cj b a d.last z))
+  pub last_inside : cj ≡ 0 → Hiding ws a b
+  last_inside z = (stood cj b d.last (omega arith), obstructs_sym (corners ws) b a (inside cj b a d.last z))
 
   -- ---- no bit shared, and neither 0: the cone
   pub not_all : bit_and ci cj ≡ 0 → (cj ≡ 0 → ⊥) → ci < 255
@@ -224,36 +209,45 @@ module _ {ws : List ℕ} {ci cj : ℕ} {a b : Point} (d : CodesAre ws ci cj a b)
     )
 
     -- the side of the straight that each of the two is on
-    module _ (f : ℕ) (sf : Starts ci f) (x : ℕ) (cx : CornerSide ws f a b x) where
-      at_f : cx.place ≡ corner_at (corners ws) f
+    module _ (f : ℕ) (sf : Starts ci f) (x : Side) (cx : CornerSide ws f a b x) where
+      pub at_f : cx.place ≡ corner_at (corners ws) f
       at_f = corner_read ws cx.place f (tf f sf).within cx.east cx.north
 
-      open_first : x < 2 → Hiding ws a b → ⊥
-      open_first l h = clash_ℤ (rw (← at_f) at (lefts f sf h.1)) (cx.side.not_left l)
+      pub lefts_f : Hiding ws a b → pos 0 <ℤ turn a b 1 (pos cx.place.east) (pos cx.place.north)
+      lefts_f h = rw (← at_f) at (lefts f sf h.1)
 
-      pub met_right : x ≡ 0 → Met ws a b 0
-      met_right e = answer_missed ws a b (open_first (omega arith)) (missed_left f sf (rw at_f at (cx.side.right e)))
+    module _ (f : ℕ) (sf : Starts ci f) where
+      pub met_right : (x : Side) → CornerSide ws f a b x → same x Right ≡ true → Met ws a b Misses
+      met_right Right cx e = (λ h. clash_ℤ (lefts_f f sf Right cx h) (lt_le cx.side), missed_left f sf (rw (at_f f sf Right cx) at cx.side))
+      met_right On cx e = cc
+      met_right Left cx e = cc
 
-      pub met_first : x ≡ 1 → Met ws a b 1
-      met_first e = answer_open ws a b (open_first (omega arith))
+      pub met_first : (x : Side) → CornerSide ws f a b x → same x On ≡ true → Met ws a b Touches
+      met_first On cx e h = clash_ℤ (lefts_f f sf On cx h) cx.side.1
+      met_first Right cx e h = cc
+      met_first Left cx e h = cc
 
-    module _ (g : ℕ) (sg : Ends ci g) (y : ℕ) (cy : CornerSide ws g a b y) where
-      at_g : cy.place ≡ corner_at (corners ws) g
+    module _ (g : ℕ) (sg : Ends ci g) (y : Side) (cy : CornerSide ws g a b y) where
+      pub at_g : cy.place ≡ corner_at (corners ws) g
       at_g = corner_read ws cy.place g (tg g sg).within cy.east cy.north
 
-      open_last : 0 < y → Hiding ws a b → ⊥
-      open_last l h = clash_ℤ (rw (← at_g) at (rights g sg h.1)) (cy.side.not_right l)
+      pub rights_g : Hiding ws a b → turn a b 1 (pos cy.place.east) (pos cy.place.north) <ℤ pos 0
+      rights_g h = rw (← at_g) at (rights g sg h.1)
 
-      pub met_left : y ≡ 2 → Met ws a b 0
-      met_left e = answer_missed ws a b (open_last (omega arith)) (missed_right g sg (rw at_g at (cy.side.left e)))
+    module _ (g : ℕ) (sg : Ends ci g) where
+      pub met_left : (y : Side) → CornerSide ws g a b y → same y Left ≡ true → Met ws a b Misses
+      met_left Left cy e = (λ h. clash_ℤ (rights_g g sg Left cy h) (lt_le cy.side), missed_right g sg (rw (at_g g sg Left cy) at cy.side))
+      met_left On cy e = cc
+      met_left Right cy e = cc
 
-      pub met_last : y ≡ 1 → Met ws a b 1
-      met_last e = answer_open ws a b (open_last (omega arith))
+      pub met_last : (y : Side) → CornerSide ws g a b y → same y On ≡ true → Met ws a b Touches
+      met_last On cy e h = clash_ℤ (rights_g g sg On cy h) cy.side.0
+      met_last Right cy e h = cc
+      met_last Left cy e h = cc
 
-      pub met_between : (f x : ℕ) → Starts ci f → CornerSide ws f a b x → (x ≡ 0 → ⊥) → (x ≡ 1 → ⊥) → (y ≡ 2 → ⊥) → (y ≡ 1 → ⊥) → Met ws a b 2
-      met_between f x sf cx x₀ x₁ y₂ y₁ =
-          answer_hidden ws a b stands
-          ((cone_iff f g sf sg).1 (
-            rw (at_f f sf x cx) at (cx.side.left (omega (arith, cx.side.small))),
-            rw at_g at (cy.side.right (omega (arith, cy.side.small))),
-          ))
+      pub met_between : (f : ℕ) → Starts ci f → (x y : Side) → CornerSide ws f a b x → CornerSide ws g a b y → same x Right ≡ false → same y Left ≡ false → same x On ≡ false → same y On ≡ false → Met ws a b Hides
+      met_between f sf Left Right cx cy e₀ e₁ e₂ e₃ = (stands, (cone_iff f g sf sg).1 (rw (at_f f sf Left cx) at cx.side, rw (at_g g sg Right cy) at cy.side))
+      met_between f sf Left Left cx cy e₀ e₁ e₂ e₃ = cc
+      met_between f sf Left On cx cy e₀ e₁ e₂ e₃ = cc
+      met_between f sf Right y cx cy e₀ e₁ e₂ e₃ = cc
+      met_between f sf On y cx cy e₀ e₁ e₂ e₃ = cc

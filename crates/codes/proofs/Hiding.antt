@@ -1,22 +1,20 @@
 -- What the codes of two marks say of one block, and of all of them in order.
 use mathlib.Core.Path.{◌≡◌, ◌∙◌}
-use mathlib.Core.Bool.{not}
 use mathlib.Core.Logic.{◌⊎◌, inl, inr}
 use mathlib.Core.List.{List}
+use Rattle.std.specs.Prelude.{Some, None}
 use Prim.Native.Nat.{ℕ, ◌+◌, ◌*◌, ◌-◌, ◌<◌, ◌≤◌}
 use native.Mathlib.Decide.{ℕ_discrete, dec_lt}
 use native.Mathlib.Omega.{arith}
-use lib.Bits.{bit_and}
-use lib.Dec.{eqb}
 use lib.ListN.{take, drop}
-use borrow.Author.Tests.{not-true, not-false, eqb-true, eqb-false}
-use Rattle.lists.specs.inner.Tells.{Tells}
-use Rattle.bits.specs.inner.Bits.{bit, Packed}
+use Rattle.bits.specs.inner.Bits.{bit, With}
 use Rattle.geometry.specs.Words.{Point, word, block_words}
 use Rattle.geometry.specs.Obstruction.{Hidden}
 use Rattle.geometry.proofs.Searching.{part_is}
 use Rattle.tables.specs.Tables.{Records, stored, place_of}
-use Rattle.codes.specs.inner.Codes.{CodesAre, Missed, Met, Coded, FirstHider, Beside, PassedBy, Looked}
+use Rattle.codes.specs.declared.Meeting.{Meeting}
+use Rattle.codes.specs.declared.Meeting.TheVariants.{Misses, Touches, Hides}
+use Rattle.codes.specs.inner.Codes.{CodesAre, Missed, Met, Coded, Beside, PassedBy, Looked}
 use Rattle.codes.proofs.Coded.{shared}
 
 module _ (blocks runs codes : List ℕ) (d : Coded (stored blocks runs) codes) (n i j : ℕ) (hn : n < 24) (hi : i < 240) (hj : j < 240) where
@@ -38,18 +36,8 @@ module _ (blocks runs codes : List ℕ) (d : Coded (stored blocks runs) codes) (
   pub beside_unhidden : (a b : Point) → a ≡ place_of R i → b ≡ place_of R j → Beside codes n i j → Hidden blocks n a b → ⊥
   beside_unhidden a b p q e h = shared (codes_are a b p q) e (h.stands, h.across)
 
-pub part_met : (blocks : List ℕ) (n : ℕ) (a b : Point) (r : ℕ) → Met (take (17 * n + 17 - 17 * n) (drop (17 * n) blocks)) a b r → Met (block_words blocks n) a b r
+pub part_met : (blocks : List ℕ) (n : ℕ) (a b : Point) (r : Meeting) → Met (take (17 * n + 17 - 17 * n) (drop (17 * n) blocks)) a b r → Met (block_words blocks n) a b r
 part_met blocks n a b r m = rw (part_is blocks n) at m
-
-pub hides_told : (blocks : List ℕ) (n : ℕ) (a b : Point) (r : ℕ) → Met (block_words blocks n) a b r → Tells (Hidden blocks n a b) (eqb r 2)
-hides_told blocks n a b r m =
-    record {
-      yes' = λ e. let h = m.hides (eqb-true r 2 e) in record { stands = h.0; across = h.1 };
-      no' = λ e h. m.spares (eqb-false r 2 e) (h.stands, h.across);
-    }
-
-pub beside_told : (x y : ℕ) → Tells (bit_and x y ≡ 0 → ⊥) (not (eqb (bit_and x y) 0))
-beside_told x y = record { yes' = λ e. eqb-false _ 0 (not-true _ e); no' = λ e f. f (eqb-true _ 0 (not-false _ e)) }
 
 -- of the blocks below n, none hides the segment, and those whose bit is 0 it is beside or misses
 pub record LookedTo (blocks codes : List ℕ) (i j : ℕ) (a b : Point) (n opened : ℕ) : Type 0 where
@@ -86,12 +74,19 @@ module _ (blocks codes : List ℕ) (i j : ℕ) (a b : Point) where
         rest = λ k m z. elim (dec_lt k n) [ yes l ↦ u.rest k l z | no l ↦ inl (p.all k (omega arith) m) ];
       }
 
-  pub look_past : (n opened more r : ℕ) → n < 24 → Met (block_words blocks n) a b r → (r ≡ 2 → ⊥) → Packed opened n r more → LookedTo blocks codes i j a b n opened → LookedTo blocks codes i j a b (n + 1) more
-  look_past n opened more r l m f p = look_next n opened more l (λ h. m.spares f (h.stands, h.across)) (λ z. inr (m.misses (p.here z))) p.kept
+  pub look_touched : (n opened more : ℕ) → n < 24 → Met (block_words blocks n) a b Touches → With opened n more → LookedTo blocks codes i j a b n opened → LookedTo blocks codes i j a b (n + 1) more
+  look_touched n opened more l m f = look_next n opened more l (λ h. m (h.stands, h.across)) (λ z. absurd (omega (arith, f.here))) (λ k z. kept k z (ℕ_discrete k n))
+    where
+      kept : (k : ℕ) → bit k more ≡ 0 → Dec (k ≡ n) → bit k opened ≡ 0
+      kept k z (yes q) = absurd (omega (arith, f.here, (rw q at z)))
+      kept k z (no q) = omega (arith, f.rest k q)
 
-  pub look_found : (n opened r : ℕ) → Met (block_words blocks n) a b r → r ≡ 2 → LookedTo blocks codes i j a b n opened → Looked blocks codes i j a b n opened
-  look_found n opened r m e u =
-      record { first = record { small = u.small; none = u.none; here = λ l. let h = m.hides e in record { stands = h.0; across = h.1 } }; rest = u.rest }
+  pub look_missed : (n opened : ℕ) → n < 24 → Met (block_words blocks n) a b Misses → LookedTo blocks codes i j a b n opened → LookedTo blocks codes i j a b (n + 1) opened
+  look_missed n opened l m = look_next n opened opened l (λ h. m.0 (h.stands, h.across)) (λ z. inr m.1) (λ k z. z)
 
-  pub look_all : (n opened : ℕ) → 24 ≤ n → LookedTo blocks codes i j a b n opened → Looked blocks codes i j a b n opened
-  look_all n opened l u = record { first = record { small = u.small; none = u.none; here = λ m. absurd (omega arith) }; rest = u.rest }
+  pub look_found : (n opened : ℕ) → n < 24 → Met (block_words blocks n) a b Hides → LookedTo blocks codes i j a b n opened → Looked blocks codes i j a b (Some n) opened
+  look_found n opened l m u =
+      record { first = record { none = u.none; here = (l, record { stands = m.0; across = m.1 }) }; rest = u.rest }
+
+  pub look_all : (n opened : ℕ) → 24 ≤ n → LookedTo blocks codes i j a b n opened → Looked blocks codes i j a b None opened
+  look_all n opened l u = let e : n ≡ 24 = omega (arith, u.small) in record { first = record { none = rw e at u.none; here = tt }; rest = rw e at u.rest }

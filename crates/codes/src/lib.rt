@@ -9,14 +9,30 @@ ghost use Rattle.geometry.specs.inner.Bounds.{BoundedRecord};
 ghost use Rattle.tables.specs.Tables.{stored, place_of};
 ghost use Rattle.codes.specs.inner.Codes.{Starts, Ends, SideIs, CornerSide, CodesAre, Met, Coded, Beside, BesideAll, PassedBy, Looked};
 
-use bits::packed;
+use bits::with_bit;
 use geometry::{Place, corner, turn};
 
-// What a look along a straight finds: the lowest block that hides it, 24 where none does, and as bits those of the blocks
+// The side of a straight that a place is on.
+#[derive(Clone, Copy, Debug, PartialEq, Eq)]
+enum Side {
+    Right,
+    On,
+    Left,
+}
+
+// What a straight has of a block: it misses it, it may touch it but is not hidden, or it is hidden.
+#[derive(Clone, Copy, Debug, PartialEq, Eq)]
+pub enum Meeting {
+    Misses,
+    Touches,
+    Hides,
+}
+
+// What a look along a straight finds: the lowest block that hides it, if one does, and as bits those of the blocks
 // before it that the straight may touch, unless it is beside them.
 #[derive(Clone, Copy)]
 pub struct Sight {
-    pub hider: usize,
+    pub hider: Option<usize>,
     pub opened: u64,
 }
 
@@ -38,58 +54,51 @@ fn after(c: u8) -> usize
     (u8::trailing_zeros(s) as usize + 1) % 8
 }
 
-// The side of the straight from a to b that v is on: 2 strictly left, 0 strictly right, 1 neither.
-fn side(a: Place, b: Place, v: Place) -> u8
+// The side of the straight from a to b that v is on.
+fn side_of(a: Place, b: Place, v: Place) -> Side
     ensures { SideIs (turn (point_of a) (point_of b) 1 (pos v.east) (pos v.north)) result }
 {
     let t = turn(a, b, v);
     if t < 0 {
-        return 0;
+        return Side::Right;
     }
     if 0 < t {
-        return 2;
+        return Side::Left;
     }
-    1
+    Side::On
 }
 
 // The side that corner k of a block record is on.
-fn corner_side(words: &[u16], k: usize, a: Place, b: Place) -> u8
+fn corner_side(words: &[u16], k: usize, a: Place, b: Place) -> Side
     requires { (BoundedRecord words.now) × (k < 8) }
     ensures { CornerSide words.now k (point_of a) (point_of b) result }
 {
-    side(a, b, corner(words, k))
+    side_of(a, b, corner(words, k))
 }
 
-// What the straight from a to b, whose codes against a block are ci and cj, has of it: 2 it is hidden, 0 it misses the
-// block, 1 it is not hidden and may touch the block.
-pub fn meets(words: &[u16], ci: u8, cj: u8, a: Place, b: Place) -> u8
+// What the straight from a to b, whose codes against a block are ci and cj, has of it.
+pub fn meets(words: &[u16], ci: u8, cj: u8, a: Place, b: Place) -> Meeting
     requires { CodesAre words.now ci cj (point_of a) (point_of b) }
     ensures { Met words.now (point_of a) (point_of b) result }
 {
     if ci & cj != 0 {
-        return 1;
+        return Meeting::Touches;
     }
-    if ci == 0 {
-        return 2;
-    }
-    if cj == 0 {
-        return 2;
+    if ci == 0 || cj == 0 {
+        return Meeting::Hides;
     }
     let f = corner_side(words, first(ci), a, b);
-    if f == 0 {
-        return 0;
+    if f == Side::Right {
+        return Meeting::Misses;
     }
     let g = corner_side(words, after(ci), a, b);
-    if g == 2 {
-        return 0;
+    if g == Side::Left {
+        return Meeting::Misses;
     }
-    if f == 1 {
-        return 1;
+    if f == Side::On || g == Side::On {
+        return Meeting::Touches;
     }
-    if g == 1 {
-        return 1;
-    }
-    2
+    Meeting::Hides
 }
 
 // Whether some side of block n has marks i and j both not strictly left of it, so that the block does not hide their straight.
@@ -97,9 +106,7 @@ pub fn is_beside(codes: &[u8], n: usize, i: usize, j: usize) -> bool
     requires { (length codes.now ≡ 5760) × (n < 24) × (i < 240) × (j < 240) }
     ensures { Tells (Beside codes.now n i j) result }
 {
-    let ci = codes[240 * n + i];
-    let cj = codes[240 * n + j];
-    ci & cj != 0
+    codes[240 * n + i] & codes[240 * n + j] != 0
 }
 
 // What the straight between marks i and j, at a and b, has of block n.
@@ -112,7 +119,7 @@ fn meets_block(
     j: usize,
     a: Place,
     b: Place,
-) -> u8
+) -> Meeting
     requires coded { (Coded (stored blocks.now runs.now) codes.now) × (n < 24) × (i < 240) × (j < 240) }
     requires a_value { (point_of a ≡ place_of (stored blocks.now runs.now) i) × (point_of b ≡ place_of (stored blocks.now runs.now) j) }
     ensures { Met (block_words blocks.now n) (point_of a) (point_of b) result }
@@ -137,7 +144,7 @@ pub fn hides(
     requires a_value { (point_of a ≡ place_of (stored blocks.now runs.now) i) × (point_of b ≡ place_of (stored blocks.now runs.now) j) }
     ensures { Tells (Hidden blocks.now n (point_of a) (point_of b)) result }
 {
-    meets_block(blocks, runs, codes, n, i, j, a, b) == 2
+    meets_block(blocks, runs, codes, n, i, j, a, b) == Meeting::Hides
 }
 
 // Whether the straight between marks i and j is beside four blocks, from block n on.
@@ -145,16 +152,10 @@ fn are_beside(codes: &[u8], n: usize, i: usize, j: usize) -> bool
     requires { (length codes.now ≡ 5760) × (n ≤ 20) × (i < 240) × (j < 240) }
     ensures { result ≡ true → BesideAll codes.now i j n (n + 4) }
 {
-    if !is_beside(codes, n, i, j) {
-        return false;
-    }
-    if !is_beside(codes, n + 1, i, j) {
-        return false;
-    }
-    if !is_beside(codes, n + 2, i, j) {
-        return false;
-    }
-    is_beside(codes, n + 3, i, j)
+    is_beside(codes, n, i, j)
+        && is_beside(codes, n + 1, i, j)
+        && is_beside(codes, n + 2, i, j)
+        && is_beside(codes, n + 3, i, j)
 }
 
 // Passes blocks four at a time, from `from` on, while the straight is beside all four; answers where it stopped.
@@ -163,10 +164,7 @@ fn pass_by(codes: &[u8], from: usize, i: usize, j: usize) -> usize
     ensures { PassedBy codes.now i j from result }
 {
     let mut n = from;
-    while n <= 20 {
-        if !are_beside(codes, n, i, j) {
-            return n;
-        }
+    while n <= 20 && are_beside(codes, n, i, j) {
         n += 4;
     }
     n
@@ -193,15 +191,20 @@ pub fn look(
             n += 1;
             continue;
         }
-        let m = meets_block(blocks, runs, codes, n, i, j, a, b);
-        if m == 2 {
-            break;
+        match meets_block(blocks, runs, codes, n, i, j, a, b) {
+            Meeting::Hides => {
+                return Sight {
+                    hider: Some(n),
+                    opened,
+                };
+            }
+            Meeting::Touches => opened = with_bit(opened, n as u32),
+            Meeting::Misses => {}
         }
-        opened = packed(opened, n as u32, m);
         n = pass_by(codes, n + 1, i, j);
     }
     Sight {
-        hider: n,
-        opened: opened,
+        hider: None,
+        opened,
     }
 }

@@ -4,4 +4,4 @@ use Rattle.codes.proofs.corner_side.Goals as goal
 pub returns : goal.returns
 returns c =
     let v = c.corner in
-    record { place = point_of v.result; east = v.ensures.0; north = v.ensures.1; side = c.side.ensures }
+    record { place = point_of v.result; east = v.ensures.0; north = v.ensures.1; side = c.side_of.ensures }

@@ -1,5 +1,5 @@
 -- The code of a place against a block: which sides it is not strictly left of.
-use Rattle.std.specs.Prelude.{◌≡◌, Bool, true, false, cond, ◌⊎◌, List, ℕ, zero, suc, ◌+◌, ◌*◌, ◌-◌, ◌%◌, ◌<◌, ◌≤◌, min, eqb, ℤ, pos, ◌<ℤ◌, ◌≤ℤ◌, length}
+use Rattle.std.specs.Prelude.{◌≡◌, true, cond, ◌⊎◌, List, ℕ, zero, suc, ◌+◌, ◌*◌, ◌-◌, ◌%◌, ◌<◌, ◌≤◌, min, eqb, ℤ, pos, ◌<ℤ◌, ◌≤ℤ◌, length, Option, Some, None, MatchOption}
 use Rattle.std.specs.Int.Bits.{bit_and}
 use Rattle.std.specs.Int.Signed.{lt_z}
 use Rattle.bits.specs.inner.Bits.{bit}
@@ -10,6 +10,10 @@ use Rattle.geometry.specs.Convexity.{convex}
 use Rattle.seams.specs.inner.Reach.{Touched}
 use Rattle.tables.specs.Tables.{Records, place_of}
 use Rattle.tables.specs.inner.Fit.{Fit}
+use Rattle.codes.specs.declared.Side.{Side}
+use Rattle.codes.specs.declared.Side.TheVariants.{Right, On, Left}
+use Rattle.codes.specs.declared.Meeting.{Meeting}
+use Rattle.codes.specs.declared.Meeting.TheVariants.{Misses, Touches, Hides}
 
 -- 1 where p is not strictly left of side k, else 0
 unfoldable pub outside : List Point → Point → ℕ → ℕ
@@ -59,26 +63,24 @@ Hiding ws a b = (0 < word ws 0) × Obstructs (corners ws) a b
 abbrev pub Missed : List ℕ → Point → Point → Type 0
 Missed ws a b = (u s : ℕ) → 1 ≤ u + s → Touched ws a b u s → ⊥
 
--- the side of a straight that a place with the turn z against it is on: 0 strictly right, 1 on its line, 2 strictly left
-pub record SideIs (z : ℤ) (r : ℕ) : Type 0 where
-  pub small : r ≤ 2
-  pub right : r ≡ 0 → z <ℤ pos 0
-  pub left : r ≡ 2 → pos 0 <ℤ z
-  pub not_right : 0 < r → pos 0 ≤ℤ z
-  pub not_left : r < 2 → z ≤ℤ pos 0
+-- the side of a straight that a place with the turn z against it is on
+abbrev pub SideIs : ℤ → Side → Type 0
+SideIs z Right = z <ℤ pos 0
+SideIs z On = (pos 0 ≤ℤ z) × (z ≤ℤ pos 0)
+SideIs z Left = pos 0 <ℤ z
 
 -- the side of the segment from a to b that corner k of the record is on
-pub record CornerSide (ws : List ℕ) (k : ℕ) (a b : Point) (r : ℕ) : Type 0 where
+pub record CornerSide (ws : List ℕ) (k : ℕ) (a b : Point) (r : Side) : Type 0 where
   pub place : Point
   pub east : place.east ≡ word ws (2 * k + 1)
   pub north : place.north ≡ word ws (2 * k + 2)
   pub side : SideIs (turn a b 1 (pos place.east) (pos place.north)) r
 
--- what a segment has of the block of the record: 2 it is hidden, 0 the block has no place of it, 1 it is not hidden
-pub record Met (ws : List ℕ) (a b : Point) (r : ℕ) : Type 0 where
-  pub hides : r ≡ 2 → Hiding ws a b
-  pub spares : (r ≡ 2 → ⊥) → Hiding ws a b → ⊥
-  pub misses : r ≡ 0 → Missed ws a b
+-- what a segment has of the block of the record: the block has no place of it, may have one but does not hide it, or hides it
+abbrev pub Met : List ℕ → Point → Point → Meeting → Type 0
+Met ws a b Misses = (Hiding ws a b → ⊥) × Missed ws a b
+Met ws a b Touches = Hiding ws a b → ⊥
+Met ws a b Hides = Hiding ws a b
 
 -- what the coded test asks of the records; question 2 ensures it
 pub record Upright (R : Records) : Type 0 where
@@ -95,11 +97,15 @@ pub record Coded (R : Records) (codes : List ℕ) : Type 0 where
   pub records : Upright R
   pub table : CodesOf R codes
 
--- r is the lowest block that hides the segment, 24 where none does
-pub record FirstHider (blocks : List ℕ) (a b : Point) (r : ℕ) : Type 0 where
-  pub small : r ≤ 24
-  pub none : (k : ℕ) → k < r → Hidden blocks k a b → ⊥
-  pub here : r < 24 → Hidden blocks r a b
+-- the blocks before block h, or all 24 where there is none
+abbrev pub before : Option ℕ → ℕ
+before None = 24
+before (Some h) = h
+
+-- h is the lowest block that hides the segment, if one does
+pub record FirstHider (blocks : List ℕ) (a b : Point) (h : Option ℕ) : Type 0 where
+  pub none : (k : ℕ) → k < before h → Hidden blocks k a b → ⊥
+  pub here : MatchOption h (Unit {0}) (λ r. (r < 24) × Hidden blocks r a b)
 
 -- some side of block n has marks i and j both not strictly left of it
 abbrev pub Beside : List ℕ → ℕ → ℕ → ℕ → Type 0
@@ -116,6 +122,6 @@ pub record PassedBy (codes : List ℕ) (i j from r : ℕ) : Type 0 where
   pub all : BesideAll codes i j from r
 
 -- what a look along a straight finds: the lowest block that hides it, and of those before it the ones that it may touch, unless it is beside them
-pub record Looked (blocks codes : List ℕ) (i j : ℕ) (a b : Point) (r opened : ℕ) : Type 0 where
-  pub first : FirstHider blocks a b r
-  pub rest : (n : ℕ) → n < r → bit n opened ≡ 0 → Beside codes n i j ⊎ Missed (block_words blocks n) a b
+pub record Looked (blocks codes : List ℕ) (i j : ℕ) (a b : Point) (h : Option ℕ) (opened : ℕ) : Type 0 where
+  pub first : FirstHider blocks a b h
+  pub rest : (n : ℕ) → n < before h → bit n opened ≡ 0 → Beside codes n i j ⊎ Missed (block_words blocks n) a b
