@@ -1,7 +1,7 @@
 -- What each return and each turn of the loops shows.
 use mathlib.Core.Path.{◌≡◌, refl, sym, ap, ◌∙◌}
 use mathlib.Core.Logic.{◌⊎◌, inl, inr, ⊎_elim}
-use mathlib.Core.Bool.{Bool, true, false, cond}
+use mathlib.Core.Bool.{Bool, true, false}
 use mathlib.Core.List.{List}
 use Prim.Native.Nat.{ℕ, zero, suc, ◌+◌, ◌*◌, ◌-◌, ◌%◌, ◌<◌, ◌≤◌, max}
 use native.Mathlib.Nat.{le-max_left, le-max_right}
@@ -10,8 +10,11 @@ use native.Mathlib.Omega.{arith}
 use lib.Bits.{bit_or, or_step, or_lt}
 use lib.IntN.{ℤ, pos, ◌-ℤ◌, ◌*ℤ◌}
 use lib.Signed.{lt_z, ◌<ℤ◌, ◌≤ℤ◌, clash_ℤ, ≤ℤ_refl}
+use mir.Val.{bool_byte}
+use lib.Dec.{eqb}
 use lib.ListN.{length, set, take, drop, replicate, length-set, get_or-replicate}
 use lib.Seq.{get_or-set_same, get_or-set_other}
+use Rattle.lists.specs.inner.Tells.{Tells}
 use Rattle.bits.specs.inner.Bits.{bit, Packed}
 use Rattle.geometry.specs.Words.{Point, point, word, block_words, corners}
 use Rattle.geometry.specs.Obstruction.{side_turn}
@@ -27,22 +30,22 @@ or_even a b e =
     let m : max (a % 2) (b % 2) ≡ 0 = omega (arith, or_step a b) in
     (omega (arith, le-max_left (a % 2) (b % 2)), omega (arith, le-max_right (a % 2) (b % 2)))
 
-pub marked_is : (old : ℕ) (on right : Bool) (v w : ℕ) → v ≡ cond on 1 0 → w ≡ cond right 2 0 → Marked old on right (bit_or (bit_or old v) w)
-marked_is old on right v w e f = record { line = λ z. line on e (or_even old v (or_even (bit_or old v) w z).0); beyond = λ h. beyond right f h }
+pub marked_is : (old : ℕ) (on right : Bool) (v w : ℕ) → v ≡ bool_byte on → w ≡ bool_byte right → Marked old on right (bit_or (bit_or old v) (2 * w))
+marked_is old on right v w e f = record { line = λ z. line on e (or_even old v (or_even (bit_or old v) (2 * w) z).0); beyond = λ h. beyond right f h }
   where
-    line : (t : Bool) → v ≡ cond t 1 0 → (old % 2 ≡ 0) × (v % 2 ≡ 0) → (old % 2 ≡ 0) × (t ≡ false)
+    line : (t : Bool) → v ≡ bool_byte t → (old % 2 ≡ 0) × (v % 2 ≡ 0) → (old % 2 ≡ 0) × (t ≡ false)
     line false e p = (p.0, refl)
     line true e p = absurd (omega (arith, p.1))
 
-    one : (t : Bool) → v ≡ cond t 1 0 → v < 2
+    one : (t : Bool) → v ≡ bool_byte t → v < 2
     one true e = omega arith
     one false e = omega arith
 
-    beyond : (t : Bool) → w ≡ cond t 2 0 → 2 ≤ bit_or (bit_or old v) w → (2 ≤ old) ⊎ (t ≡ true)
+    beyond : (t : Bool) → w ≡ bool_byte t → 2 ≤ bit_or (bit_or old v) (2 * w) → (2 ≤ old) ⊎ (t ≡ true)
     beyond true f h = inr refl
     beyond false f h =
         elim (dec_lt old 2) [
-          | yes l ↦ absurd (omega (arith, or_lt 1 (bit_or old v) w (or_lt 1 old v l (one on e)) (omega arith)))
+          | yes l ↦ absurd (omega (arith, or_lt 1 (bit_or old v) (2 * w) (or_lt 1 old v l (one on e)) (omega arith)))
           | no l ↦ inl (omega arith)
         ]
 
@@ -80,13 +83,15 @@ module _ (ws : List ℕ) (k x y : ℕ) (e n level : ℤ) (l : LineOf (corners ws
               go true q = sym q
               go false q = absurd (clash_ℤ h (test_no a b refl q))
 
-  pub sides_mark : (on right : Bool) (old r : ℕ) → k < word ws 0 → (on ≡ false → level ≡ e *ℤ pos y -ℤ n *ℤ pos x → ⊥) → right ≡ lt_z (e *ℤ pos y -ℤ n *ℤ pos x) level
-      → Marked old on right r → SidesByte ws (point x y) (k + 1) old → SidesByte ws (point x y) k r
-  sides_mark on right old r h f g m s =
-      record {
-        line = λ z. off_mark on f (m.line z).1 (s.line (m.line z).0);
+  pub sides_mark : (p : Point) (on right : Bool) (old r : ℕ) → point x y ≡ p → k < word ws 0 → Tells (level ≡ e *ℤ pos y -ℤ n *ℤ pos x) on → right ≡ lt_z (e *ℤ pos y -ℤ n *ℤ pos x) level
+      → Marked old on right r → SidesByte ws p (k + 1) old → SidesByte ws p k r
+  sides_mark p on right old r same h f g m s =
+      let s = rw (← same) at s in
+      rw (← same)
+      (record {
+        line = λ z. off_mark on f.no' (m.line z).1 (s.line (m.line z).0);
         beyond = λ z. ⊎_elim (λ b. further (s.beyond b)) (λ t. record { side = k; after = omega arith; before = h; right = right_turn right g t }) (m.beyond z);
-      }
+      })
     where
       further : RightFrom ws (point x y) (k + 1) → RightFrom ws (point x y) k
       further q = record { side = q.side; after = omega (arith, q.after); before = q.before; right = q.right }
@@ -119,9 +124,6 @@ pub sides_end : (ws east north row : List ℕ) → Blank row → SidesRow ws eas
 sides_end ws east north row r =
     record { sized = r.sized; each = λ i h. record { line = λ z t a b. absurd (omega arith); beyond = λ b. absurd (omega (arith, r.each i h)) } }
 
-pub sides_before : (ws east north row : List ℕ) (k : ℕ) → 0 < k → SidesRow ws east north k row → SidesRow ws east north (k - 1 + 1) row
-sides_before ws east north row k h r = let e : k ≡ k - 1 + 1 = omega arith in rw (← e) r
-
 pub sides_first : (ws east north row : List ℕ) (k : ℕ) → k ≤ 0 → SidesRow ws east north k row → SidesRow ws east north 0 row
 sides_first ws east north row k h r = let e : k ≡ 0 = omega arith in rw e at r
 
@@ -129,8 +131,13 @@ sides_first ws east north row k h r = let e : k ≡ 0 = omega arith in rw e at r
 pub room : (n : ℕ) → n < 24 → n + 24 < 64
 room n h = omega arith
 
-pub both_packed : (c n b d h r : ℕ) → Packed c n (b % 2) d → (h ≡ 0 → b ≡ 1 → ⊥) → Packed d (n + 24) h r → PackedBoth c n b r
-both_packed c n b d h r p f q = record { line = λ z. p.here (q.kept n z); held = λ z. f (q.here z); kept = λ m z. p.kept m (q.kept m z) }
+pub both_packed : (c n b d h r : ℕ) → Packed c n (b % 2) d → h ≡ bool_byte (eqb b 1) → Packed d (n + 24) h r → PackedBoth c n b r
+both_packed c n b d h r p f q =
+    record {
+      line = λ z. p.here (q.kept n z);
+      held = λ z e. let o : h ≡ 1 = rw e at f in omega (arith, q.here z);
+      kept = λ m z. p.kept m (q.kept m z);
+    }
 
 pub pack_none : (row : List ℕ) (n : ℕ) (old : List ℕ) → length old ≡ 240 → PackedTo row n old old 0
 pack_none row n old l = record { sized = l; past = λ j h. absurd (omega arith); rest = λ j h. refl }

@@ -5,19 +5,16 @@ use mathlib.Core.List.{List}
 use Prim.Native.Nat.{ℕ, ◌+◌, ◌*◌, ◌%◌, ◌<◌, ◌≤◌}
 use native.Mathlib.Omega.{arith}
 use lib.IntN.{ℤ, pos, ◌+ℤ◌, ◌-ℤ◌, ◌*ℤ◌, +ℤ_idl}
-use lib.Dec.{lit<}
 use lib.Signed.{lt_z, clash_ℤ}
 use mir.Syntax.{w32}
-use mir.Val.{SFits, to_z, of_z}
-use mir.ValLaws.{to_z-of_z}
+use mir.Val.{SFits}
 use Rattle.geometry.specs.Words.{Point, word, corners}
 use Rattle.geometry.specs.inner.Bounds.{BoundedRecord}
 use Rattle.geometry.specs.Obstruction.{corner_at, next_corner, turn, side_turn}
 use Rattle.geometry.proofs.Bound.{test_yes, test_no}
-use Rattle.geometry.proofs.Signed.{◌⊖◌, diff, undiff, ⊖-eq}
+use Rattle.geometry.proofs.Signed.{diff, undiff, ⊖-eq}
 use Rattle.geometry.proofs.Corners.{turn_one, places_length, corner_read}
 use Rattle.codes.proofs.Signs.{lt_gap, gap_le}
-use Rattle.code_table.proofs.Narrow.{within_fits}
 use Rattle.code_table.specs.inner.Lines.{Slopes, LineOf}
 
 -- the turn of a place is how much further across it is than the side's own start
@@ -69,8 +66,3 @@ corner_small ws k p b h f = (
   omega (arith, f.0, b.count, b.coordinates (2 * k + 1) (omega (arith, b.count))),
   omega (arith, f.1, b.count, b.coordinates (2 * k + 2) (omega (arith, b.count))),
 )
-
--- the line as the machine reads it
-pub read_line : (ps : List Point) (k : ℕ) (e n level : ℤ) → LineOf ps k e n level → LineOf ps k (to_z w32 (of_z w32 e)) (to_z w32 (of_z w32 n)) (to_z w32 (of_z w32 level))
-read_line ps k e n level l =
-    rw (to_z-of_z w32 e (within_fits l.slopes.east (lit< tt)), to_z-of_z w32 n (within_fits l.slopes.north (lit< tt)), to_z-of_z w32 level l.fits) l

@@ -12,7 +12,8 @@ use borrow.Rule.Slice.PartMut.{put_mid, Post-is}
 use lib.Seq.{get_or-set_same, get_or-set_other}
 use Rattle.lists.specs.inner.Filled.{filled}
 use Rattle.lists.specs.Lists.{splice}
-use Rattle.geometry.specs.Words.{point, word, block_words, corners}
+use Rattle.geometry.specs.inner.Bounds.{InRange}
+use Rattle.geometry.specs.Words.{Point, point, word, block_words, corners}
 use Rattle.geometry.proofs.Searching.{part_is}
 use Rattle.tables.specs.Tables.{Records, stored, place_of}
 use Rattle.tables.specs.inner.Fit.{Fit}
@@ -20,7 +21,7 @@ use Rattle.tables.proofs.Marks.{place_in_range}
 use Rattle.tables.proofs.Splices.{word_replicate, part_word, splice_length, splice_before, splice_here}
 use Rattle.codes.specs.inner.Codes.{code_from, code_of, CodesOf}
 use Rattle.codes.proofs.Coding.{code_last, code_step, code_done, code_absent}
-use Rattle.code_table.specs.inner.Lines.{LineOf, mark_at, RowFrom, RowIs, PlacesOf}
+use Rattle.code_table.specs.inner.Lines.{LineOf, Marks, mark_at, RowFrom, RowIs, PlacesOf}
 
 -- the entries below i are those of f, and the others are as they were
 pub record Upto (f : ℕ → ℕ) (old new : List ℕ) (i : ℕ) : Type 0 where
@@ -48,16 +49,19 @@ pub row_from : (ws east north old new : List ℕ) (k i : ℕ) → 240 ≤ i → 
 row_from ws east north old new k i h u = record { sized = u.sized; each = λ j l. u.past j (omega arith) }
 
 -- one code, by the line of the side
-module _ (ws : List ℕ) (k x y : ℕ) (e n level : ℤ) (t : Bool) (l : LineOf (corners ws) k e n level) (h : t ≡ lt_z level (e *ℤ pos y -ℤ n *ℤ pos x)) where
-  pub code_from_last : (c : ℕ) → word ws 0 ≡ k + 1 → c ≡ cond t 0 255 → c ≡ code_from (corners ws) (point x y) k 8
+module _ (ws : List ℕ) (k : ℕ) (p q : Point) (same : p ≡ q) (e n level : ℤ) (t : Bool) (l : LineOf (corners ws) k e n level) (h : t ≡ lt_z level (e *ℤ pos p.north -ℤ n *ℤ pos p.east)) where
+  pub code_from_last : (c : ℕ) → word ws 0 ≡ k + 1 → c ≡ cond t 0 255 → c ≡ code_from (corners ws) q k 8
   code_from_last c m g =
-      let q : word ws 0 - 1 ≡ k = omega arith in
-      rw q at (code_last ws (point x y) (omega arith) c t (rw q (h ∙ l.left x y)) g)
+      let d : word ws 0 - 1 ≡ k = omega arith in
+      rw (← same) (rw d at (code_last ws p (omega arith) c t (rw d (h ∙ l.left p.east p.north)) g))
 
-  pub code_from_side : (c r : ℕ) → k + 1 < word ws 0 → c ≡ code_from (corners ws) (point x y) (k + 1) 8 → r ≡ cond t 0 1 + 2 * (c % 128) → r ≡ code_from (corners ws) (point x y) k 8
-  code_from_side c r m d g =
-      let q : k + 1 - 1 ≡ k = omega arith in
-      rw q at (code_step ws (point x y) (omega arith) c (k + 1) r t (omega arith) m (rw q (h ∙ l.left x y)) d g)
+  pub code_from_side : (c r : ℕ) → k + 1 < word ws 0 → c ≡ code_from (corners ws) q (k + 1) 8 → r ≡ cond t 0 1 + 2 * (c % 128) → r ≡ code_from (corners ws) q k 8
+  code_from_side c r m f g =
+      let d : k + 1 - 1 ≡ k = omega arith in
+      rw (← same) (rw d at (code_step ws p (omega arith) c (k + 1) r t (omega arith) m (rw d (h ∙ l.left p.east p.north)) (rw (← same) at f) g))
+
+pub mark_in_range : (east north : List ℕ) (i : ℕ) (p : Point) → p ≡ mark_at east north i → Marks east north → i < 240 → InRange p
+mark_in_range east north i p e m h = rw e (record { east = m.east_small i h; north = m.north_small i h })
 
 -- ---- a whole row
 pub row_absent : (ws east north old row : List ℕ) → length old ≡ 240 → row ≡ filled (length old) 255 → word ws 0 ≡ 0 → RowIs ws east north row
@@ -71,9 +75,6 @@ row_absent ws east north old row l f e =
 
 pub row_done : (ws east north row : List ℕ) (k : ℕ) → 0 < word ws 0 → k ≤ 0 → RowFrom ws east north k row → RowIs ws east north row
 row_done ws east north row k s z r = record { sized = r.sized; each = λ i h. code_done ws (mark_at east north i) s (word row i) k z (r.each i h) }
-
-pub row_next : (ws east north row : List ℕ) (k : ℕ) → 0 < k → RowFrom ws east north k row → RowFrom ws east north (k - 1 + 1) row
-row_next ws east north row k h r = let e : k ≡ k - 1 + 1 = omega arith in rw (← e) r
 
 -- ---- the places of all marks
 pub places_all : (R : Records) (east₀ north₀ east north : List ℕ) (i : ℕ) → Fit R → 240 ≤ i → Upto (λ j. (place_of R j).east) east₀ east i → Upto (λ j. (place_of R j).north) north₀ north i

@@ -1,26 +1,20 @@
 -- The loop keeps: the codes from side k on.
-use mathlib.Core.Path.{refl}
+use mathlib.Core.Path.{◌≡◌}
+use Prim.Native.Nat.{◌+◌, ◌-◌}
 use native.Mathlib.Omega.{arith}
-use borrow.Author.Rules.{rules}
-use Rattle.code_table.proofs.Rows.{row_absent, row_done, row_next}
+use Rattle.code_table.proofs.Rows.{row_absent, row_done}
 use Rattle.code_table.proofs.block_row.Goals as goal
 
 pub returns-then-m-eq0 : goal.returns-then-m-eq0
 returns-then-m-eq0 c = search row_absent
 
-pub last_row-requires : goal.last_row-requires
-last_row-requires c = record { «record» = (c.requires.0, omega arith); marks = (c.requires.1, c.requires.2) }
-
-pub loop-k-init : goal.loop-k-init
-loop-k-init c = (refl, omega arith, search rules)
+pub last_row-requires-clause-record : goal.last_row-requires-clause-record
+last_row-requires-clause-record c = (c.requires.0, omega arith)
 
 pub side_row-requires : goal.side_row-requires
 side_row-requires c =
-    let i = c.loop-k.invariant in
-    record { «record» = (c.requires.0, omega (arith, i.0, i.1)); marks = (c.requires.1, search row_next) }
-
-pub loop-k-preserved : goal.loop-k-preserved
-loop-k-preserved c = (search rules, omega (arith, c.loop-k.invariant.1), search rules)
+    let e : c.loop-k.k ≡ c.loop-k.k - 1 + 1 = omega arith in
+    record { «record» = (c.requires.0, omega (arith, c.loop-k.auto.k)); marks = (c.requires.1, (rw e at c.loop-k.invariant)) }
 
 pub returns : goal.returns
-returns c = let i = c.loop-k.invariant in row_done _ _ _ _ _ (omega (arith, i.0, i.1)) (omega arith) i.2
+returns c = row_done _ _ _ _ _ (omega arith) c.loop-k-test.false c.loop-k.invariant

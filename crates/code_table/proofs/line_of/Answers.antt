@@ -19,7 +19,7 @@ difference-north-requires c = (
 pub across-requires : goal.across-requires
 across-requires c =
     let f = corner_small _ _ (point_of c.corner-p.result) c.requires.0 c.requires.1 c.corner-p.ensures in
-    rw (read c.difference-east.type_inv refl, read c.difference-north.type_inv refl) (c.difference-east.ensures.small, c.difference-north.ensures.small, f.0, f.1)
+    rw (read c.difference-east.type_inv refl, read c.difference-north.type_inv refl) (c.difference-east.ensures.small, c.difference-north.ensures.small, record { east = f.0; north = f.1 })
 
 pub returns : goal.returns
 returns c =
