@@ -12,6 +12,7 @@ use lib.Dec.{eqb}
 use lib.IntN.{ℤ, pos}
 use lib.Signed.{◌<ℤ◌, ◌≤ℤ◌}
 use borrow.Author.Tests.{eqb-true}
+use Rattle.std.specs.Prelude.{None}
 use Rattle.lists.specs.Lists.{all_below}
 use Rattle.lists.specs.inner.Tells.{Tells}
 use Rattle.lists.proofs.Below.{all_at}
@@ -33,7 +34,7 @@ use Rattle.code_table.specs.inner.Lines.{PlacesOf}
 use Rattle.alignments.specs.inner.Lined.{OffFrom, Unheld, WordSays, LinesOf}
 use Rattle.alignments.proofs.Marking.{below_zero}
 use Rattle.visibility.specs.Visibility.{Unhidden}
-use Rattle.visibility.specs.inner.Bytes.{StraightIs, visible, between, lowest}
+use Rattle.visibility.specs.inner.Bytes.{StraightIs, visible, between}
 use Rattle.block_bytes.specs.inner.Aids.{TouchedWord, LinedUp}
 
 -- ---- the word
@@ -134,7 +135,7 @@ untouched {ws} {ci} {cj} {a} {b} d f g p q u s w t =
     back t = record { stands = t.stands; around = λ k l. swap u s (side_turn (corners ws) a k) (side_turn (corners ws) b k) (t.around k l) }
 
 module _ (blocks runs codes masks lines : List ℕ) (i j : ℕ) (a b : Point) (o w : ℕ) (c : Coded (stored blocks runs) codes) (l : LinedUp (stored blocks runs) masks lines)
-    (hi : i < 240) (hj : j < 240) (k : Looked blocks codes i j a b 24 o) (p : a ≡ place_of (stored blocks runs) i) (q : b ≡ place_of (stored blocks runs) j)
+    (hi : i < 240) (hj : j < 240) (k : Looked blocks codes i j a b None o) (p : a ≡ place_of (stored blocks runs) i) (q : b ≡ place_of (stored blocks runs) j)
     (t : TouchedWord o (word lines i) (word lines j) w) where
   pub touched_in : TouchedIn blocks masks a b w
   touched_in = record { each = each }
@@ -164,22 +165,16 @@ lined_up blocks runs east north masks lines p l =
     record { sized = l.sized; each = λ n i h k. subst (λ (x : Point). WordSays (block_words blocks n) x (word masks n) n (word lines i)) (p.each i k) (l.each n i h k) }
 
 -- ---- the byte
-module _ (blocks codes : List ℕ) (i j : ℕ) (a b : Point) (n o : ℕ) (k : Looked blocks codes i j a b n o) where
-  pub straight_hidden : n < 24 → StraightIs blocks a b n
-  straight_hidden l = lowest l (k.first.here l) k.first.none
+module _ (blocks codes : List ℕ) (i j : ℕ) (a b : Point) (o : ℕ) (k : Looked blocks codes i j a b None o) where
+  unhidden : Unhidden blocks a b
+  unhidden m h x = k.first.none m h x
 
-  unhidden : 24 ≤ n → Unhidden blocks a b
-  unhidden l m h x = k.first.none m (omega arith) x
+  pub straight_apart : Disjoint blocks → StraightIs blocks a b 254
+  straight_apart d = visible (record { seen = unhidden; unshared = disjoint_unshared blocks a b d }) refl
 
-  pub looked_all : 24 ≤ n → Looked blocks codes i j a b 24 o
-  looked_all l = let e : n ≡ 24 = omega (arith, k.first.small) in rw e at k
+  module _ (t : Bool) (h : Tells (Shared blocks a b) t) where
+    pub straight_seam : t ≡ true → StraightIs blocks a b 253
+    straight_seam e = between (record { seen = unhidden; shared = h.yes' e }) refl
 
-  pub straight_apart : (alone : Bool) → 24 ≤ n → (alone ≡ true → Disjoint blocks) → alone ≡ true → StraightIs blocks a b 254
-  straight_apart alone l f e = visible (record { seen = unhidden l; unshared = disjoint_unshared blocks a b (f e) }) refl
-
-module _ (blocks codes : List ℕ) (i j : ℕ) (a b : Point) (o : ℕ) (k : Looked blocks codes i j a b 24 o) (t : Bool) (h : Tells (Shared blocks a b) t) where
-  pub straight_seam : t ≡ true → StraightIs blocks a b 253
-  straight_seam e = between (record { seen = unhidden blocks codes i j a b 24 o k (omega arith); shared = h.yes' e }) refl
-
-  pub straight_clear : t ≡ false → StraightIs blocks a b 254
-  straight_clear e = visible (record { seen = unhidden blocks codes i j a b 24 o k (omega arith); unshared = h.no' e }) refl
+    pub straight_clear : t ≡ false → StraightIs blocks a b 254
+    straight_clear e = visible (record { seen = unhidden; unshared = h.no' e }) refl

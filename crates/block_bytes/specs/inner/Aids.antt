@@ -1,12 +1,14 @@
 -- What an edit of a block makes once for all pairs.
-use Rattle.std.specs.Prelude.{◌≡◌, Bool, true, List, ◌⊎◌, ℕ, ◌+◌, ◌<◌, length}
+use Rattle.std.specs.Prelude.{◌≡◌, Bool, true, false, Option, Some, None, List, ◌⊎◌, ℕ, ◌+◌, ◌<◌, length}
 use Rattle.bits.specs.inner.Bits.{bit}
-use Rattle.geometry.specs.Words.{word, block_words}
+use Rattle.geometry.specs.Words.{point_of, word, block_words}
+use Rattle.geometry.specs.declared.Place.{Place}
 use Rattle.seams.specs.Seam.{Disjoint}
 use Rattle.seam_search.specs.inner.Masks.{Masks}
-use Rattle.tables.specs.Tables.{Records, place_of}
+use Rattle.tables.specs.Tables.{Records, stored, present, place_of}
 use Rattle.codes.specs.inner.Codes.{Coded}
 use Rattle.alignments.specs.inner.Lined.{WordSays}
+use Rattle.block_bytes.specs.declared.Aids.{Aids}
 
 -- bit n of r, a number below 24, is 0 only where it is 0 in `opened` and in one of the other words, and bit n + 24 is 0 in both of these
 pub record TouchedWord (opened first last r : ℕ) : Type 0 where
@@ -26,3 +28,16 @@ pub record Aided (R : Records) (codes masks lines : List ℕ) (t : Bool) : Type 
   pub near : Masks R.blocks masks
   pub lined : LinedUp R masks lines
   pub apart : t ≡ true → Disjoint R.blocks
+
+-- the records that they stand beside
+abbrev pub records_of : Aids → Records
+records_of a = stored a.blocks.now a.runs.now
+
+-- such aids of a block's edit, as they are lent for each pair
+abbrev pub AidsRight : Aids → Type 0
+AidsRight a = Aided (records_of a) a.codes.now a.masks.now a.lines.now a.alone
+
+-- what a row's loop keeps of its mark j: its place, if it is present
+abbrev pub KnownMark : Records → ℕ → Option Place → Type 0
+KnownMark R j None = present R j ≡ false
+KnownMark R j (Some p) = (present R j ≡ true) × (point_of p ≡ place_of R j)
