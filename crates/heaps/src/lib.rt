@@ -1,7 +1,7 @@
 // The marks of a search in one list: the least by the sum of key and bound, and a heap of them.
 #![tactic(auto)]
 
-ghost use Rattle.std.specs.Prelude.{◌≡◌, ◌+◌, ◌*◌, ◌-◌, ◌%◌, ◌<◌, ◌≤◌, min, length};
+ghost use Rattle.std.specs.Prelude.{◌≡◌, ◌+◌, ◌*◌, ◌-◌, ◌%◌, ◌<◌, ◌≤◌, length};
 ghost use Rattle.heaps.specs.inner.Marks.{Swapped};
 ghost use Rattle.geometry.specs.Words.{word};
 ghost use Rattle.heaps.specs.inner.Sums.{Comparable, LeastFour, LowTo, LeastOf, Least, Sooner};
@@ -24,15 +24,13 @@ pub fn least(bounds: &[u32], key: &[u32], order: &[u16], lo: usize, hi: usize) -
 {
     let mut best = hi;
     let mut low: u32 = 4000000000;
-    let mut j = lo;
-    while j < hi {
+    for j in lo..hi {
         let v = order[j] as usize;
         let whole = key[v] + bounds[v];
         if whole < low {
             low = whole;
             best = j;
         }
-        j += 1;
     }
     best
 }
@@ -44,21 +42,14 @@ struct Low {
     from: usize,
 }
 
-fn lesser(a: u32, b: u32) -> u32
-    ensures { result ≡ min a b }
-{
-    if a < b { a } else { b }
-}
-
 // The least of the four sums from j on.
 fn least_four(sums: &[u32], j: usize) -> u32
     requires { j + 4 ≤ length sums.now }
     ensures { LeastFour (word sums.now) j result }
 {
-    lesser(
-        lesser(sums[j], sums[j + 1]),
-        lesser(sums[j + 2], sums[j + 3]),
-    )
+    let first = sums[j].min(sums[j + 1]);
+    let second = sums[j + 2].min(sums[j + 3]);
+    first.min(second)
 }
 
 // The least of the sums from lo on and before stop, four at a time.
@@ -68,19 +59,14 @@ fn lowest_by_fours(sums: &[u32], lo: usize, stop: usize, hi: usize) -> Low
 {
     let mut sum: u32 = 4000000000;
     let mut from = hi;
-    let mut j = lo;
-    while j < stop {
+    for j in (lo..stop).step_by(4) {
         let four = least_four(sums, j);
         if four < sum {
             sum = four;
             from = j;
         }
-        j += 4;
     }
-    Low {
-        sum: sum,
-        from: from,
-    }
+    Low { sum, from }
 }
 
 // The same with those before hi.
@@ -91,19 +77,14 @@ fn lowest(sums: &[u32], lo: usize, stop: usize, hi: usize) -> Low
     let low = lowest_by_fours(sums, lo, stop, hi);
     let mut sum = low.sum;
     let mut from = low.from;
-    let mut j = stop;
-    while j < hi {
+    for j in stop..hi {
         let one = sums[j];
         if one < sum {
             sum = one;
             from = j;
         }
-        j += 1;
     }
-    Low {
-        sum: sum,
-        from: from,
-    }
+    Low { sum, from }
 }
 
 // The place of the least of the sums from lo on and before hi, or hi where no mark there is reached.
@@ -113,12 +94,10 @@ pub fn least_sum(sums: &[u32], lo: usize, hi: usize) -> usize
 {
     let stop = lo + (hi - lo) / 4 * 4;
     let low = lowest(sums, lo, stop, hi);
-    let mut j = low.from;
-    while j < hi {
+    for j in low.from..hi {
         if sums[j] == low.sum {
             return j;
         }
-        j += 1;
     }
     hi
 }
@@ -165,9 +144,7 @@ pub fn heapify(bounds: &[u32], key: &[u32], order: &mut [u16], n: usize)
     ensures heap { Heap bounds.now key.now order.new 0 n }
     ensures marks { Rearranged order.old order.new n }
 {
-    let mut i = n / 2;
-    while 0 < i {
-        i -= 1;
+    for i in (0..n / 2).rev() {
         sift(bounds, key, order, i, n);
     }
 }

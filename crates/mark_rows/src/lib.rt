@@ -39,9 +39,7 @@ fn word_by_pairs(blocks: &[u16], pairs: &[u8], v: usize, q: usize) -> u64
     ensures { (i : ℕ) → i < 64 → Shows (Adjacent blocks.now (Said pairs.now) v (64 * q + i)) (bit i result) }
 {
     let mut w = 0;
-    let mut k = 64;
-    while 0 < k {
-        k -= 1;
+    for k in (0..64).rev() {
         let x = adjacent(blocks, pairs, v, 64 * q + k);
         w = bits::below(w, x);
     }
@@ -55,9 +53,7 @@ fn word_by_row(blocks: &[u16], pairs: &[u8], v: usize, q: usize) -> u64
 {
     let start = tables::pair_index(64 * q, v);
     let mut w = 0;
-    let mut k = 64;
-    while 0 < k {
-        k -= 1;
+    for k in (0..64).rev() {
         let x = clear_corner(blocks, pairs[start + k], 64 * q + k);
         w = bits::below(w, x);
     }
@@ -78,11 +74,7 @@ pub fn adjacent_word(blocks: &[u16], pairs: &[u8], v: usize, q: usize) -> u64
 fn clear(adj: &mut [u64])
     ensures { adj.new ≡ filled (length adj.old) 0 }
 {
-    let mut k = 0;
-    while k < adj.len() {
-        adj[k] = 0;
-        k += 1;
-    }
+    adj.fill(0);
 }
 
 // Sets bit u of row v, if corner u is there.
@@ -116,10 +108,8 @@ fn none_clear(pairs: &[u8], at: usize) -> bool
     ensures { result ≡ true → NoneClear pairs.now at 16 }
 {
     let mut any = false;
-    let mut k = 0;
-    while k < 16 {
-        any = any | (pairs[at + k] == 254);
-        k += 1;
+    for k in 0..16 {
+        any |= pairs[at + k] == 254;
     }
     !any
 }
@@ -139,10 +129,8 @@ fn enter_each(
     ensures { Entered blocks.now pairs.now adj.new (start + end) }
 {
     let there = tables::is_corner(blocks, j);
-    let mut k = i;
-    while k < end {
+    for k in i..end {
         enter(blocks, pairs, adj, start + k, k, j, there);
-        k += 1;
     }
 }
 
@@ -164,12 +152,11 @@ fn enter_row(blocks: &[u16], pairs: &[u8], adj: &mut [u64], start: usize, j: usi
     requires entered { Entered blocks.now pairs.now adj.old start }
     ensures { Entered blocks.now pairs.now adj.new (start + j) }
 {
-    let mut i = 0;
-    while i + 16 <= j {
-        enter_sixteen(blocks, pairs, adj, start, i, j);
-        i += 16;
+    let sixteens = j / 16;
+    for k in 0..sixteens {
+        enter_sixteen(blocks, pairs, adj, start, 16 * k, j);
     }
-    enter_each(blocks, pairs, adj, start, i, j, j);
+    enter_each(blocks, pairs, adj, start, 16 * sixteens, j, j);
 }
 
 // The corners near each corner, in three words each.
@@ -179,11 +166,9 @@ fn fill_corners(blocks: &[u16], pairs: &[u8], adj: &mut [u64])
 {
     clear(adj);
     let mut start = 0;
-    let mut j = 0;
-    while j < 192 {
+    for j in 0..192 {
         enter_row(blocks, pairs, adj, start, j);
         start += j;
-        j += 1;
     }
 }
 
@@ -193,9 +178,7 @@ pub fn fill_rows(blocks: &[u16], pairs: &[u8], adj: &mut [u64])
     ensures { Rows blocks.now (Said pairs.now) adj.new 720 }
 {
     fill_corners(blocks, pairs, adj);
-    let mut k = 576;
-    while k < 720 {
+    for k in 576..720 {
         adj[k] = adjacent_word(blocks, pairs, k / 3, k % 3);
-        k += 1;
     }
 }

@@ -6,14 +6,8 @@ use Rattle.heaps.proofs.heapify.Goals as goal
 pub loop-i-init : goal.loop-i-init
 loop-i-init c = (rearranged_none, heap_none c.args.n, omega arith)
 
-pub overflow_sub-i : goal.overflow_sub-i
-overflow_sub-i c = omega (arith, c.loop-i-test.true)
-
 pub sift-requires : goal.sift-requires
 sift-requires c = (heapable_rearranged c.requires c.loop-i.invariant.0, omega (arith, c.loop-i.invariant.2), heap_from (omega arith) c.loop-i.invariant.1)
-
-pub loop-i-smaller : goal.loop-i-smaller
-loop-i-smaller c = omega (arith, c.loop-i-test.true)
 
 pub loop-i-preserved : goal.loop-i-preserved
 loop-i-preserved c = (rearranged_then c.loop-i.invariant.0 c.sift.ensures.marks, c.sift.ensures.heap, omega (arith, c.loop-i.invariant.2))

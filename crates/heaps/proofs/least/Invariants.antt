@@ -6,6 +6,3 @@ use Rattle.heaps.proofs.least.Given as goal
 
 abbrev pub invariant-loop-j : goal.invariant-loop-j
 invariant-loop-j l = BestTo (λ i. whole l.bounds l.key (word l.order i)) l.lo l.hi l.best l.low l.j
-
-abbrev pub decreases-loop-j : goal.decreases-loop-j
-decreases-loop-j l = l.hi - l.j

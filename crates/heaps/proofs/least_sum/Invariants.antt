@@ -5,6 +5,3 @@ use Rattle.heaps.proofs.least_sum.Given as goal
 
 abbrev pub invariant-loop-j : goal.invariant-loop-j
 invariant-loop-j l = (l.low.from ≤ l.j) × ((k : ℕ) → l.low.from ≤ k → k < l.j → word l.sums k ≡ l.low.sum → ⊥)
-
-abbrev pub decreases-loop-j : goal.decreases-loop-j
-decreases-loop-j l = l.hi - l.j

@@ -5,6 +5,3 @@ use Rattle.heaps.proofs.lowest.Given as goal
 
 abbrev pub invariant-loop-j : goal.invariant-loop-j
 invariant-loop-j l = (l.lo ≤ l.j) × (l.j ≤ l.hi) × LowTo (word l.sums) l.lo l.hi l.sum l.from l.j
-
-abbrev pub decreases-loop-j : goal.decreases-loop-j
-decreases-loop-j l = l.hi - l.j

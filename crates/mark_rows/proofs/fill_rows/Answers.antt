@@ -4,10 +4,10 @@ use Rattle.mark_rows.proofs.Words.{rows_next}
 use Rattle.mark_rows.proofs.fill_rows.Goals as goal
 
 pub loop-k-init : goal.loop-k-init
-loop-k-init c = (omega arith, c.fill_corners.ensures)
+loop-k-init c = c.fill_corners.ensures
 
 pub loop-k-preserved : goal.loop-k-preserved
-loop-k-preserved c = (omega arith, search rows_next)
+loop-k-preserved c = search rows_next
 
 pub returns : goal.returns
-returns c = let x = c.loop-k.invariant in record { sized = x.1.sized; each = λ k l. x.1.each k (omega arith) }
+returns c = let x = c.loop-k.invariant in record { sized = x.sized; each = λ k l. x.each k (omega arith) }

@@ -4,6 +4,3 @@ use Rattle.mark_rows.proofs.word_by_row.Given as goal
 
 abbrev pub invariant-loop-k : goal.invariant-loop-k
 invariant-loop-k l = Part (Adjacent l.blocks (Said l.pairs) l.v) l.q l.k l.w
-
-abbrev pub decreases-loop-k : goal.decreases-loop-k
-decreases-loop-k l = l.k
