@@ -52,13 +52,11 @@ fn next_hop(
     ensures { Hop (graph (stored blocks.now runs.now) (ByBytes pairs.now)) second key.now v result }
 {
     let kv = key[v];
-    let mut u = 0;
-    while u < 192 {
+    for u in 0..192 {
         let ku = key[u];
         if tight(blocks, runs, pairs, v, u, kv, ku) {
             return u;
         }
-        u += 1;
     }
     second
 }
@@ -130,12 +128,10 @@ pub fn all_routes(blocks: &[u16], runs: &[u16], pairs: &[u8], routes: &mut [u32]
     search::list_places(blocks, runs, &mut places);
     let mut adj = [0u64; 576];
     adjacency::fill_rows(blocks, pairs, &mut adj);
-    let mut m = 0;
-    while m < 24 {
+    for m in 0..24 {
         let at = 197 * m;
         let end = at + 197;
         route(blocks, runs, &places, pairs, &adj, m, &mut routes[at..end]);
-        m += 1;
     }
 }
 
@@ -155,7 +151,7 @@ fn route_right(
 {
     let mut due = [0u32; 197];
     route(blocks, runs, places, pairs, adj, m, &mut due);
-    lists::same_words(part, &due)
+    part == due.as_slice()
 }
 
 // Whether every route record is that of the pair bytes.
@@ -167,14 +163,12 @@ pub fn routes_right(blocks: &[u16], runs: &[u16], pairs: &[u8], routes: &[u32]) 
     search::list_places(blocks, runs, &mut places);
     let mut adj = [0u64; 576];
     adjacency::fill_rows(blocks, pairs, &mut adj);
-    let mut k = 0;
-    while k < 24 {
+    for k in 0..24 {
         let at = 197 * k;
         let end = at + 197;
         if !route_right(blocks, runs, &places, pairs, &adj, &routes[at..end], k) {
             return false;
         }
-        k += 1;
     }
     true
 }

@@ -44,12 +44,10 @@ pub fn relax(
     ensures { Passed (ahead places.now by) (via places.now by) (Seen rows.now facing by.mark) waiting.old spot.old key.old waiting.new spot.new key.new sums.new result by.left }
 {
     let mut low = u;
-    let mut q = 0;
-    while q < 4 {
+    for q in 0..4 {
         let w = near_word(rows, facing, first, by.mark, q);
         let base = search::near_base(first, q);
         low = search::relax_word(places, by, w, base, low, waiting, spot, key, sums);
-        q += 1;
     }
     low
 }

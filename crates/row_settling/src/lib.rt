@@ -76,7 +76,7 @@ fn settle_mark(
         mark: s,
         place: search::listed_place(places, s),
         key: key[s],
-        left: left,
+        left,
         figure: tables::figure_of(runs),
         goal: search::listed_place(places, first),
     };

@@ -24,10 +24,7 @@ fn facing(blocks: &[u16], runs: &[u16], near: &[u8], m: usize) -> bool
     requires { (Fit (stored blocks.now runs.now)) × (Near blocks.now near.now) × (m < 24) }
     ensures { Tells (ByPlaces (stored blocks.now runs.now) (first_end m) (second_end m)) result }
 {
-    if visibility::fresh_byte(blocks, runs, near, 192 + 2 * m, 193 + 2 * m) == 254 {
-        return true;
-    }
-    false
+    visibility::fresh_byte(blocks, runs, near, 192 + 2 * m, 193 + 2 * m) == 254
 }
 
 // The state and the length of run m's route: a search finds them, and no walk is needed.
@@ -72,12 +69,10 @@ fn price_runs(blocks: &[u16], runs: &[u16], rows: &[u64], quote: &mut [u32])
     search::list_places(blocks, runs, &mut places);
     let mut near = [0u8; 24];
     neighbours::mark_near(blocks, &mut near);
-    let mut m = 0;
-    while m < 24 {
+    for m in 0..24 {
         let p = run_price(blocks, runs, &places, rows, &near, m);
         quote[m] = p.state;
         quote[24 + m] = p.charge;
-        m += 1;
     }
 }
 

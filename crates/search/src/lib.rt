@@ -2,7 +2,7 @@
 // and the relaxing of those that have a clear straight to a settled one. A key is 256 × cost + straights.
 #![tactic(auto)]
 
-ghost use Rattle.std.specs.Prelude.{◌≡◌, ℕ, ◌+◌, ◌*◌, ◌<◌, ◌≤◌, min, max, length};
+ghost use Rattle.std.specs.Prelude.{◌≡◌, ℕ, ◌+◌, ◌*◌, ◌<◌, ◌≤◌, min, length};
 ghost use Rattle.geometry.specs.Words.{point_of, word, place_at};
 ghost use Rattle.tables.specs.Tables.{stored};
 ghost use Rattle.search.specs.inner.LowerBound.{projection, at_least, lower_bound};
@@ -27,12 +27,10 @@ pub fn list_places(blocks: &[u16], runs: &[u16], places: &mut [u16])
     requires { (length blocks.now ≡ 408) × (length runs.now ≡ 121) × (length places.old ≡ 480) }
     ensures { Places (stored blocks.now runs.now) places.new 240 }
 {
-    let mut i = 0;
-    while i < 240 {
+    for i in 0..240 {
         let p = tables::place_of(blocks, runs, i);
         places[2 * i] = p.east;
         places[2 * i + 1] = p.north;
-        i += 1;
     }
 }
 
@@ -53,14 +51,12 @@ fn open_corners(blocks: &[u16], waiting: &mut [u16], spot: &mut [u8]) -> usize
     ensures { Corners blocks.now waiting.new spot.new 192 result }
 {
     let mut n = 0;
-    let mut i = 0;
-    while i < 192 {
+    for i in 0..192 {
         if tables::is_corner(blocks, i) {
             waiting[n] = i as u16;
             spot[i] = n as u8;
             n += 1;
         }
-        i += 1;
     }
     n
 }
@@ -76,19 +72,14 @@ pub fn list_bends(blocks: &[u16], first: usize, waiting: &mut [u16], spot: &mut 
     corners + 1
 }
 
-fn larger(a: u32, b: u32) -> u32
-    ensures { result ≡ max a b }
-{
-    if a < b { b } else { a }
-}
-
 // 256 × the longest projection of a straight on five directions, or a little less, by its larger and its smaller difference.
 fn projection(hi: u32, lo: u32) -> u32
     requires { (hi ≤ 65535) × (lo ≤ 65535) }
     ensures { result ≡ projection hi lo }
 {
-    let flat = larger(larger(256 * hi, 250 * hi + 55 * lo), 236 * hi + 99 * lo);
-    larger(flat, larger(213 * hi + 142 * lo, 181 * hi + 181 * lo))
+    let flat = (256 * hi).max(250 * hi + 55 * lo).max(236 * hi + 99 * lo);
+    let steep = (213 * hi + 142 * lo).max(181 * hi + 181 * lo);
+    flat.max(steep)
 }
 
 // 256 × a whole number that the straight from a to b is at least as long as.
@@ -98,7 +89,7 @@ fn at_least(a: Place, b: Place) -> u32
 {
     let x = lengths::apart(a.east, b.east) as u32;
     let y = lengths::apart(a.north, b.north) as u32;
-    let hi = larger(x, y);
+    let hi = x.max(y);
     let lo = x + y - hi;
     256 * (projection(hi, lo) / 256)
 }
@@ -117,11 +108,9 @@ pub fn lower_bounds(
     ensures { Looked (lower_bound (stored blocks.now runs.now) first) waiting.now n bounds.new }
 {
     let to = tables::place_of(blocks, runs, first);
-    let mut j = 0;
-    while j < n {
+    for j in 0..n {
         let v = waiting[j] as usize;
         bounds[v] = at_least(to, tables::place_of(blocks, runs, v));
-        j += 1;
     }
 }
 
@@ -223,10 +212,8 @@ pub fn near_row(blocks: &[u16], pairs: &[u8], v: usize, row: &mut [u64])
     requires { (length blocks.now ≡ 408) × (length pairs.now ≡ 28680) × (v < 240) × (length row.old ≡ 3) }
     ensures { Row blocks.now pairs.now row.new v 3 }
 {
-    let mut k = 0;
-    while k < 3 {
-        row[k] = adjacency::adjacent_word(blocks, pairs, v, k);
-        k += 1;
+    for (k, word) in row.iter_mut().enumerate() {
+        *word = adjacency::adjacent_word(blocks, pairs, v, k);
     }
 }
 
@@ -274,12 +261,10 @@ pub fn relax(
     ensures { Passed (ahead places.now by) (via places.now by) (Seen pairs.now by.mark) waiting.old spot.old key.old waiting.new spot.new key.new sums.new result by.left }
 {
     let mut low = u;
-    let mut q = 0;
-    while q < 4 {
+    for q in 0..4 {
         let w = near_word(pairs, row, first, by.mark, q);
         let base = near_base(first, q);
         low = relax_word(places, by, w, base, low, waiting, spot, key, sums);
-        q += 1;
     }
     low
 }

@@ -1,4 +1,3 @@
-use Prim.Native.Nat.{◌-◌}
 use Rattle.geometry.specs.Words.{word}
 use Rattle.heaps.specs.inner.Sums.{whole}
 use Rattle.heaps.proofs.Sums.{BestTo}

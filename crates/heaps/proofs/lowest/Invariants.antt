@@ -1,4 +1,4 @@
-use Prim.Native.Nat.{◌-◌, ◌≤◌}
+use Prim.Native.Nat.{◌≤◌}
 use Rattle.geometry.specs.Words.{word}
 use Rattle.heaps.specs.inner.Sums.{LowTo}
 use Rattle.heaps.proofs.lowest.Given as goal
