@@ -15,7 +15,8 @@ use Rattle.tables.proofs.Pairs.{tri, tri_row, tri_col, tri_below, tri_240, pair_
 use Rattle.tables.proofs.Marks.{byte_up, byte_down}
 use Rattle.bits.specs.inner.Bits.{bit, With}
 use Rattle.bits.proofs.Counting.{bit_zero}
-use Rattle.adjacency.specs.inner.Adjacent.{Adjacent, Shows, Rows, Entered, Noted, near_bit, spot}
+use Rattle.adjacency.proofs.Words.{by_words}
+use Rattle.adjacency.specs.inner.Adjacent.{Adjacent, Said, Shows, RowsBy, Entered, Noted, near_bit, spot}
 
 -- the place of a pair's byte
 spot_up : (u v : ℕ) → u < v → spot u v ≡ tri v + u
@@ -69,7 +70,7 @@ module _ (blocks pairs : List ℕ) where
   Step n v u old new =
       ((new ≡ old) × (spot u v ≡ n → Adjacent blocks pairs v u → ⊥)) ⊎ ((new ≡ 1) × Adjacent blocks pairs v u × (spot u v ≡ n))
 
-  entered_next : (old new : List ℕ) (n : ℕ) → length new ≡ 576 → ((v u : ℕ) → v < 192 → u < 192 → Step n v u (near_bit old v u) (near_bit new v u))
+  entered_next : (old new : List ℕ) (n : ℕ) → 576 ≤ length new → ((v u : ℕ) → v < 192 → u < 192 → Step n v u (near_bit old v u) (near_bit new v u))
       → Entered blocks pairs old n → Entered blocks pairs new (n + 1)
   entered_next old new n l h d = record { sized = l; each = λ v u a b. go v u (h v u a b) (d.each v u a b) }
     where
@@ -104,7 +105,7 @@ module _ (blocks pairs : List ℕ) where
   module _ (n i j : ℕ) (l : i < j) (m : j < 192) (q : n ≡ pair_index i j) (w : word pairs n ≡ 254) where
     pub enter_clear : (old mid new : List ℕ) (t s : Bool) → t ≡ is_corner blocks i → Noted old mid j i t → s ≡ is_corner blocks j → Noted mid new i j s
         → Entered blocks pairs old n → Entered blocks pairs new (n + 1)
-    enter_clear old mid new t s e a f b d = entered_next old new n b.sized (λ v u x y. go v u x y (ℕ_discrete v j) (ℕ_discrete u i) (ℕ_discrete v i) (ℕ_discrete u j)) d
+    enter_clear old mid new t s e a f b d = entered_next old new n (omega (arith, a.sized, b.sized, d.sized)) (λ v u x y. go v u x y (ℕ_discrete v j) (ℕ_discrete u i) (ℕ_discrete v i) (ℕ_discrete u j)) d
       where
         at_low : spot i j ≡ n
         at_low = spot_up i j l ∙ sym (pair_tri i j) ∙ sym q
@@ -140,42 +141,36 @@ module _ (blocks pairs : List ℕ) where
   entered_at adj n m e d = rw e at d
 
   -- nothing is entered in rows of zeros
-  pub entered_none : (adj : List ℕ) (l : ℕ) → adj ≡ filled l 0 → l ≡ 576 → Entered blocks pairs adj 0
+  pub entered_none : (adj : List ℕ) (l : ℕ) → adj ≡ filled l 0 → 576 ≤ l → Entered blocks pairs adj 0
   unfolding filled
   entered_none adj l e z =
       rw e
       (record {
-        sized = length-replicate _ _ ∙ z;
+        sized = omega (arith, length-replicate {A = ℕ} l 0);
         each = λ v u a b.
             let k : near_bit (filled l 0) v u ≡ 0 = ap (bit (u % 64)) (get_or-replicate l (3 * v + u / 64) 0 0 (omega arith)) ∙ bit_zero (u % 64) in
             record { small = omega (arith, k); yes' = λ q. absurd (omega (arith, k)); no' = λ x. absurd (omega (arith, x.1)) };
       })
 
   -- all pairs of corners are entered
-  pub entered_all : (adj : List ℕ) (n : ℕ) → n ≡ tri 192 → Entered blocks pairs adj n → Rows blocks pairs adj 576
-  entered_all adj n e d = record { sized = d.sized; each = each }
+  pub entered_all : (adj : List ℕ) (n words : ℕ) → n ≡ tri 192 → length adj ≡ words → Entered blocks pairs adj n → RowsBy blocks (Said pairs) words adj 576
+  entered_all adj n words e w d =
+      record { sized = w; each = by_words (Adjacent blocks pairs) adj 192 (λ v u x y. forget v u (near_bit adj v u) x y (d.each v u x y)) }
     where
       forget : (v u b : ℕ) → v < 192 → u < 192 → Shows (Adjacent blocks pairs v u × (spot u v < n)) b → Shows (Adjacent blocks pairs v u) b
       forget v u b x y s =
           record { small = s.small; yes' = λ q. (s.yes' q).0; no' = λ a. s.no' (a, omega (arith, spot_low u v 192 a.differ y x)) }
 
-      each : (k : ℕ) → k < 576 → (i : ℕ) → i < 64 → Shows (Adjacent blocks pairs (k / 3) (64 * (k % 3) + i)) (bit i (word adj k))
-      each k l i m =
-          let a : (64 * (k % 3) + i) % 64 ≡ i = omega arith in
-          let b : 3 * (k / 3) + (64 * (k % 3) + i) / 64 ≡ k = omega arith in
-          let s = d.each (k / 3) (64 * (k % 3) + i) (omega arith) (omega arith) in
-          forget (k / 3) (64 * (k % 3) + i) (bit i (word adj k)) (omega arith) (omega arith) (rw (a, b) at s)
-
 -- one bit of one row
-pub note_none : (adj : List ℕ) (v u : ℕ) (t : Bool) → length adj ≡ 576 → not t ≡ true → Noted adj adj v u t
+pub note_none : (adj : List ℕ) (v u : ℕ) (t : Bool) → 576 ≤ length adj → not t ≡ true → Noted adj adj v u t
 note_none adj v u t l e =
-    record { sized = l; here = λ h. let k : ◌≡◌ {A = ℕ} 0 1 = cc (ap not h) in absurd (omega arith); unset = λ h. refl; rest = λ w s x y d. refl }
+    record { sized = refl; here = λ h. let k : ◌≡◌ {A = ℕ} 0 1 = cc (ap not h) in absurd (omega arith); unset = λ h. refl; rest = λ w s x y d. refl }
 
-pub note_one : (adj : List ℕ) (v u w : ℕ) (t : Bool) → length adj ≡ 576 → v < 192 → u < 192 → not t ≡ false → With (word adj (3 * v + u / 64)) (u % 64) w
+pub note_one : (adj : List ℕ) (v u w : ℕ) (t : Bool) → 576 ≤ length adj → v < 192 → u < 192 → not t ≡ false → With (word adj (3 * v + u / 64)) (u % 64) w
     → Noted adj (set adj (3 * v + u / 64) w) v u t
 note_one adj v u w t l a b e h =
     record {
-      sized = length-set adj (3 * v + u / 64) w ∙ l;
+      sized = length-set adj (3 * v + u / 64) w;
       here = λ q. ap (bit (u % 64)) same ∙ h.here;
       unset = λ q. let k : ◌≡◌ {A = ℕ} 0 1 = cc (ap not q) in absurd (omega arith);
       rest = λ x y c d z. go x y d z (ℕ_discrete (3 * x + y / 64) (3 * v + u / 64));

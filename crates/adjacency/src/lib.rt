@@ -5,7 +5,7 @@ ghost use Rattle.std.specs.Prelude.{◌≡◌, true, ℕ, ◌+◌, ◌*◌, ◌<
 ghost use Rattle.bits.specs.inner.Bits.{bit};
 ghost use Rattle.lists.specs.inner.Filled.{filled};
 ghost use Rattle.tables.specs.Tables.{is_corner, pair_index};
-ghost use Rattle.adjacency.specs.inner.Adjacent.{Adjacent, Shows, Rows, Entered, Noted, NoneClear};
+ghost use Rattle.adjacency.specs.inner.Adjacent.{Adjacent, Said, Shows, RowsBy, Entered, Noted, NoneClear};
 
 // 1 where the byte says clear and corner u is present, else 0.
 fn clear_corner(blocks: &[u16], byte: u8, u: usize) -> u64
@@ -78,7 +78,7 @@ fn clear(adj: &mut [u64])
 
 // Sets bit u of row v, if corner u is there.
 fn note(adj: &mut [u64], v: usize, u: usize, there: bool)
-    requires { (length adj.old ≡ 576) × (v < 192) × (u < 192) }
+    requires { (576 ≤ length adj.old) × (v < 192) × (u < 192) }
     ensures { Noted adj.old adj.new v u there }
 {
     if !there {
@@ -159,14 +159,25 @@ fn enter_row(blocks: &[u16], pairs: &[u8], adj: &mut [u64], start: usize, j: usi
 }
 
 // The corners near each corner, in three words each.
-pub fn fill_rows(blocks: &[u16], pairs: &[u8], adj: &mut [u64])
-    requires { (length blocks.now ≡ 408) × (length pairs.now ≡ 28680) × (length adj.old ≡ 576) }
-    ensures { Rows blocks.now pairs.now adj.new 576 }
+fn fill_corners(blocks: &[u16], pairs: &[u8], adj: &mut [u64])
+    requires { (length blocks.now ≡ 408) × (length pairs.now ≡ 28680) × (576 ≤ length adj.old) }
+    ensures { RowsBy blocks.now (Said pairs.now) (length adj.old) adj.new 576 }
 {
     clear(adj);
     let mut start = 0;
     for j in 0..192 {
         enter_row(blocks, pairs, adj, start, j);
         start += j;
+    }
+}
+
+// The corners near each of as many marks as there are rows, in three words each: the 192 corners, or more marks.
+pub fn fill_rows(blocks: &[u16], pairs: &[u8], adj: &mut [u64])
+    requires { (length blocks.now ≡ 408) × (length pairs.now ≡ 28680) × (576 ≤ length adj.old) × (length adj.old ≤ 720) }
+    ensures { RowsBy blocks.now (Said pairs.now) (length adj.old) adj.new (length adj.old) }
+{
+    fill_corners(blocks, pairs, adj);
+    for k in 576..adj.len() {
+        adj[k] = adjacent_word(blocks, pairs, k / 3, k % 3);
     }
 }

@@ -2,13 +2,14 @@
 use mathlib.Core.Path.{◌≡◌, refl, sym, ap}
 use mathlib.Core.Bool.{true, false, true≢false}
 use mathlib.Core.List.{List}
+use Rattle.std.specs.Prelude.{Option, Some, None}
 use Prim.Native.Nat.{ℕ, ◌+◌, ◌≤◌, ◌<◌, min}
 use native.Mathlib.Decide.{ℕ_discrete, dec_lt}
 use native.Mathlib.Omega.{arith}
 use lib.Dec.{ltb}
 use borrow.Author.Tests.{ltb-false}
 use Rattle.geometry.specs.Words.{word}
-use Rattle.heaps.specs.inner.Sums.{unreached, whole, LeastOf, LeastFour, Has, LowTo, Sooner}
+use Rattle.heaps.specs.inner.Sums.{unreached, whole, LeastOf, LeastIn, LeastFour, Has, LowTo, Sooner}
 
 -- the best of the places from lo on and before j
 pub record BestTo (f : ℕ → ℕ) (lo hi best low j : ℕ) : Type 0 where
@@ -104,10 +105,14 @@ four_least f j a b r e g h = found (dec_lt (f j) (f (j + 1))) (dec_lt (f (j + 2)
     found x (yes y) (no z) = at (j + 2) (omega arith) (omega arith) (omega (arith, g, h))
     found x (no y) (no z) = at (j + 3) (omega arith) (omega arith) (omega (arith, g, h))
 
+-- a place that was found
+pub found_in : (f : ℕ → ℕ) (lo hi r : ℕ) → LeastIn f lo hi (Some r) → (r < hi) × LeastOf f lo hi r
+unfolding LeastIn
+found_in f lo hi r h = h
+
 module _ {f : ℕ → ℕ} {lo hi : ℕ} where
-  pub low_none : lo ≤ hi → LowTo f lo hi unreached hi lo
-  low_none l =
-      record { top = omega arith; after = l; within = omega arith; has = λ h. absurd (omega arith); none = λ e. refl; least = λ i a b. absurd (omega arith) }
+  pub low_none : lo ≤ hi → LowTo f lo hi unreached lo lo
+  low_none l = record { top = omega arith; after = omega arith; within = l; has = λ h. absurd (omega arith); least = λ i a b. absurd (omega arith) }
 
   module _ {low from j : ℕ} (x : LowTo f lo hi low from j) where
     pub low_kept : (k : ℕ) → ((i : ℕ) → j ≤ i → i < k → low ≤ f i) → LowTo f lo hi low from k
@@ -117,7 +122,6 @@ module _ {f : ℕ → ℕ} {lo hi : ℕ} where
           after = x.after;
           within = x.within;
           has = x.has;
-          none = x.none;
           least = λ i a b. elim (dec_lt i j) [ yes g ↦ x.least i a g | no g ↦ more i (omega arith) b ];
         }
 
@@ -127,8 +131,7 @@ module _ {f : ℕ → ℕ} {lo hi : ℕ} where
           top = omega (arith, x.top);
           after = l;
           within = omega arith;
-          has = λ g. (omega (arith, x.top), has);
-          none = λ e. absurd (omega arith);
+          has = λ g. has;
           least = λ i a b. elim (dec_lt i j) [ yes g ↦ omega (arith, x.least i a g) | no g ↦ more i (omega arith) b ];
         }
 
@@ -150,27 +153,30 @@ module _ {f : ℕ → ℕ} {lo hi : ℕ} where
 
   -- where the least stands
   module _ {low from : ℕ} (x : LowTo f lo hi low from hi) where
-    pub least_here : (r : ℕ) → from ≤ r → r < hi → f r ≡ low → LeastOf f lo hi r
-    least_here r a b e =
-        let h = x.has (omega arith) in
-        record {
-          from = omega (arith, x.after);
-          within = omega arith;
-          reached = λ g. omega (arith, e, h.0);
-          least = λ g j c d. omega (arith, e, x.least j c d);
-          none = λ g. absurd (omega arith);
-        }
+    pub least_here : (r : ℕ) → (low ≡ unreached → ⊥) → from ≤ r → r < hi → f r ≡ low → LeastIn f lo hi (Some r)
+    unfolding LeastIn
+    least_here r g a b e = (
+      b,
+      record {
+        from = omega (arith, x.after);
+        within = omega arith;
+        reached = λ h. omega (arith, e, x.top, g);
+        least = λ h j c d. omega (arith, e, x.least j c d);
+        none = λ h. absurd (omega arith);
+      },
+    )
 
-    pub least_none : ((k : ℕ) → from ≤ k → k < hi → f k ≡ low → ⊥) → LeastOf f lo hi hi
-    least_none no_place =
-        let e : from ≡ hi = elim (dec_lt from hi) [ yes g ↦ let h = (x.has g).1 in absurd (no_place h.place h.after h.before h.is) | no g ↦ omega (arith, x.within) ] in
-        record {
-          from = omega (arith, x.after);
-          within = omega arith;
-          reached = λ g. absurd (omega arith);
-          least = λ g. absurd (omega arith);
-          none = λ g j c d. omega (arith, x.none e, x.least j c d);
-        }
+    pub least_none : low ≡ unreached → LeastIn f lo hi None
+    unfolding LeastIn
+    least_none e j c d = omega (arith, e, x.least j c d)
+
+    pub least_found : (low ≡ unreached → ⊥) → ((k : ℕ) → from ≤ k → k < hi → f k ≡ low → ⊥) → LeastIn f lo hi None
+    least_found g no_place = let h = x.has (omega (arith, x.top, g)) in absurd (no_place h.place h.after h.before h.is)
+
+  -- where none is reached, the end stands for its place
+  pub least_end : lo ≤ hi → LeastIn f lo hi None → LeastOf f lo hi hi
+  unfolding LeastIn
+  least_end l h = record { from = l; within = omega arith; reached = λ g. absurd (omega arith); least = λ g. absurd (omega arith); none = λ e. h }
 
 -- what is to be done next
 module _ {bounds key order : List ℕ} {i hoped j waiting : ℕ} where

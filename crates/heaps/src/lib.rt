@@ -4,7 +4,7 @@
 ghost use Rattle.std.specs.Prelude.{◌≡◌, ◌+◌, ◌*◌, ◌-◌, ◌%◌, ◌<◌, ◌≤◌, length};
 ghost use Rattle.heaps.specs.inner.Marks.{Swapped};
 ghost use Rattle.geometry.specs.Words.{word};
-ghost use Rattle.heaps.specs.inner.Sums.{Comparable, LeastFour, LowTo, LeastOf, Least, Sooner};
+ghost use Rattle.heaps.specs.inner.Sums.{Comparable, LeastFour, LowTo, LeastIn, Least, Sooner};
 ghost use Rattle.heaps.specs.inner.Heaps.{Heap, Rearranged, LesserChild, Heapable};
 
 // Exchanges the marks at the places i and j.
@@ -35,7 +35,7 @@ pub fn least(bounds: &[u32], key: &[u32], order: &[u16], lo: usize, hi: usize) -
     best
 }
 
-// The least sum so far, and a place that it does not stand before.
+// The least sum so far, or 4000000000 where none is below that, and a place that it does not stand before.
 #[derive(Clone, Copy)]
 struct Low {
     sum: u32,
@@ -58,7 +58,7 @@ fn lowest_by_fours(sums: &[u32], lo: usize, stop: usize, hi: usize) -> Low
     ensures { LowTo (word sums.now) lo hi result.sum result.from stop }
 {
     let mut sum: u32 = 4000000000;
-    let mut from = hi;
+    let mut from = lo;
     for j in (lo..stop).step_by(4) {
         let four = least_four(sums, j);
         if four < sum {
@@ -87,19 +87,22 @@ fn lowest(sums: &[u32], lo: usize, stop: usize, hi: usize) -> Low
     Low { sum, from }
 }
 
-// The place of the least of the sums from lo on and before hi, or hi where no mark there is reached.
-pub fn least_sum(sums: &[u32], lo: usize, hi: usize) -> usize
+// The place of the least of the sums from lo on and before hi, if a mark there is reached.
+pub fn least_sum(sums: &[u32], lo: usize, hi: usize) -> Option<usize>
     requires { (hi ≤ length sums.now) × (lo ≤ hi) }
-    ensures { LeastOf (word sums.now) lo hi result }
+    ensures { LeastIn (word sums.now) lo hi result }
 {
     let stop = lo + (hi - lo) / 4 * 4;
     let low = lowest(sums, lo, stop, hi);
+    if low.sum == 4000000000 {
+        return None;
+    }
     for j in low.from..hi {
         if sums[j] == low.sum {
-            return j;
+            return Some(j);
         }
     }
-    hi
+    None
 }
 
 // The child of the place i in a heap of n marks that has the lesser sum of key and bound; there is one.

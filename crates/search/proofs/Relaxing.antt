@@ -155,6 +155,6 @@ module _ {bound most : ℕ → ℕ} {blocks pairs : List ℕ} {s first : ℕ} wh
             record { word' = v / 64; before = omega arith; near = inl (omega arith, record { present = c; differ = e.0; clear = e.1 }, omega arith, omega arith) }
 
 -- what word q asks of the list
-pub near_here : {blocks pairs W S : List ℕ} {s first n q : ℕ} → Bends blocks first W S n → first < 240 → (v : ℕ) → NearBy blocks pairs s first q v → (v < 240) × Here W S v
-near_here {blocks} d l v (inl m) = (omega (arith, corner_below blocks v m.1.present), d.all v (inr m.1.present))
-near_here d l v (inr m) = (omega (arith, m.1), d.all v (inl m.1))
+pub near_here : (pairs : List ℕ) {blocks W S : List ℕ} {s first n q : ℕ} → Bends blocks first W S n → first < 240 → (v : ℕ) → NearBy blocks pairs s first q v → (v < 240) × Here W S v
+near_here pairs {blocks} d l v (inl m) = (omega (arith, corner_below blocks v m.1.present), d.all v (inr m.1.present))
+near_here pairs d l v (inr m) = (omega (arith, m.1), d.all v (inl m.1))

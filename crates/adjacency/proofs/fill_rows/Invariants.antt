@@ -1,7 +1,6 @@
-use mathlib.Core.Path.{◌≡◌}
-use Rattle.tables.proofs.Pairs.{tri}
-use Rattle.adjacency.specs.inner.Adjacent.{Entered}
+use lib.ListN.{length}
+use Rattle.adjacency.specs.inner.Adjacent.{Said, RowsBy}
 use Rattle.adjacency.proofs.fill_rows.Given as goal
 
-abbrev pub invariant-loop-j : goal.invariant-loop-j
-invariant-loop-j l = (l.start ≡ tri l.j) × Entered l.blocks l.pairs l.adj l.start
+abbrev pub invariant-loop-k : goal.invariant-loop-k
+invariant-loop-k l = RowsBy l.blocks (Said l.pairs) (length l.initial.adj) l.adj l.k

@@ -4,14 +4,14 @@ use Rattle.adjacency.proofs.Words.{part_none, part_small, part_next, part_whole}
 use Rattle.adjacency.proofs.word_by_pairs.Goals as goal
 
 pub loop-k-init : goal.loop-k-init
-loop-k-init c = part_none _ _ _ _
+loop-k-init c = part_none _ _
 
 pub below-w-requires : goal.below-w-requires
-below-w-requires c = (part_small _ _ _ _ _ _ c.loop-k.invariant c.loop-k-test.true, c.adjacent-x.ensures.small)
+below-w-requires c = (part_small _ _ _ _ c.loop-k.invariant c.loop-k-test.true, c.adjacent-x.ensures.small)
 
 pub loop-k-preserved : goal.loop-k-preserved
 loop-k-preserved c =
-    part_next _ _ _ _ _ _ c.loop-k.invariant c.loop-k-test.true _ _ c.adjacent-x.ensures c.below-w.ensures.0 c.below-w.ensures.1 c.below-w.ensures.2
+    part_next _ _ _ _ c.loop-k.invariant c.loop-k-test.true _ _ c.adjacent-x.ensures c.below-w.ensures.0 c.below-w.ensures.1 c.below-w.ensures.2
 
 pub returns : goal.returns
-returns c = part_whole _ _ _ _ _ _ c.loop-k.invariant (omega arith)
+returns c = part_whole _ _ _ _ c.loop-k.invariant (omega arith)

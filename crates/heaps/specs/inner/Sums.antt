@@ -1,5 +1,5 @@
 -- Marks compared by the sum of key and bound.
-use Rattle.std.specs.Prelude.{◌≡◌, Bool, true, false, List, ℕ, ◌+◌, ◌≤◌, ◌<◌, length}
+use Rattle.std.specs.Prelude.{◌≡◌, Bool, true, false, List, Option, Some, None, ℕ, ◌+◌, ◌≤◌, ◌<◌, length}
 use Rattle.geometry.specs.Words.{word}
 
 -- the key of a mark that is not reached: above all others, and a word with any bound added
@@ -27,6 +27,11 @@ pub record LeastOf (f : ℕ → ℕ) (lo hi r : ℕ) : Type 0 where
   pub least : r < hi → (j : ℕ) → lo ≤ j → j < hi → f r ≤ f j
   pub none : r ≡ hi → (j : ℕ) → lo ≤ j → j < hi → unreached ≤ f j
 
+-- r is the place of the least of the numbers from lo on and before hi, or none, where none of them is of a reached mark
+unfoldable pub LeastIn : (ℕ → ℕ) → ℕ → ℕ → Option ℕ → Type 0
+LeastIn f lo hi (Some r) = (r < hi) × LeastOf f lo hi r
+LeastIn f lo hi None = (j : ℕ) → lo ≤ j → j < hi → unreached ≤ f j
+
 -- r is the least of the four from j on
 pub record LeastFour (f : ℕ → ℕ) (j r : ℕ) : Type 0 where
   pub all : (k : ℕ) → j ≤ k → k < j + 4 → r ≤ f k
@@ -42,13 +47,12 @@ pub record Has (f : ℕ → ℕ) (from hi x : ℕ) : Type 0 where
   pub before : place < hi
   pub is : f place ≡ x
 
--- low is the least of the numbers from lo on and before j, and stands at `from` or behind it; from is hi where none of them is of a reached mark
+-- low is the least of the numbers from lo on and before j, and stands at `from` or behind it; it is that of no mark where none of them is of a reached one
 pub record LowTo (f : ℕ → ℕ) (lo hi low from j : ℕ) : Type 0 where
   pub top : low ≤ unreached
   pub after : lo ≤ from
   pub within : from ≤ hi
-  pub has : from < hi → (low < unreached) × Has f from hi low
-  pub none : from ≡ hi → low ≡ unreached
+  pub has : low < unreached → Has f from hi low
   pub least : (i : ℕ) → lo ≤ i → i < j → low ≤ f i
 
 -- the same of the sums of key and bound

@@ -20,7 +20,7 @@ relax_word-low-requires c =
         x.parted,
         λ v m.
             let n = marked_near c.requires.places_len.3 (omega (arith, c.near_word-w.type_inv)) c.near_word-w.ensures c.near_base-base.ensures c.loop-q-test.true v m in
-            let h = near_here c.requires.parted.1 c.requires.first_bound.0 v n in
+            let h = near_here c.args.pairs.now c.requires.parted.1 c.requires.first_bound.0 v n in
             (h.0, x.sorted.here v h.1),
       );
     }

@@ -2,8 +2,8 @@ use mathlib.Core.Path.{◌≡◌, sym, ap, ◌∙◌}
 use native.Mathlib.Omega.{arith}
 use borrow.Author.Rules.{rules}
 use Rattle.tables.proofs.Pairs.{tri, tri_zero, tri_next, tri_below, tri_240, pair_tri}
-use Rattle.mark_rows.proofs.Entering.{entered_none, entered_all}
-use Rattle.mark_rows.proofs.fill_corners.Goals as goal
+use Rattle.adjacency.proofs.Entering.{entered_none, entered_all}
+use Rattle.adjacency.proofs.fill_corners.Goals as goal
 
 pub loop-j-init : goal.loop-j-init
 loop-j-init c = (sym tri_zero, search entered_none)
@@ -21,4 +21,4 @@ pub returns : goal.returns
 returns c =
     let l = c.loop-j in
     let e : l.j ≡ 192 = omega arith in
-    entered_all _ _ _ _ (l.invariant.0 ∙ ap tri e) l.invariant.1
+    entered_all _ _ _ _ _ (l.invariant.0 ∙ ap tri e) (search rules) l.invariant.1
