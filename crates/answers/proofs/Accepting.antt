@@ -1,4 +1,4 @@
--- An edit's number, once known: refused, the contract is met by the tables as they were; where it is 0, by those that the edit leaves.
+-- An edit's answer, once known: refused, the contract is met by the tables as they were; else by those that the edit leaves.
 use mathlib.Core.Path.{◌≡◌, refl, sym, ◌∙◌, subst}
 use mathlib.Core.Bool.{true}
 use Prim.Native.Nat.{ℕ}
@@ -6,6 +6,9 @@ use lib.IntN.{ℤ}
 use mir.Syntax.{w16}
 use mir.Val.{SFits, to_z, of_z}
 use mir.ValLaws.{to_z-of_z}
+use Rattle.std.specs.Prelude.{Result, IsErr, IsErrAnd}
+use Rattle.refusals.specs.declared.Refusal.{Refusal}
+use Rattle.refusals.specs.Numbers.{number_of, answer_of}
 use Rattle.tables.specs.Tables.{Tables, records}
 use Rattle.tables.specs.inner.Fit.{Fit}
 use Rattle.records.specs.Questions.{records_right}
@@ -14,6 +17,7 @@ use Rattle.book.specs.Questions.{first_no, lengths_right}
 use Rattle.book.specs.Book.{Edit, move_block, target, questions, written}
 use Rattle.book.specs.Edits.{book_of, answer_over, Edited, Called}
 use Rattle.book.proofs.Questions.{Sized, sized_of, first_yes}
+use Rattle.answers.proofs.Answers.{passed, some}
 
 -- what an accepted edit knows of the tables
 pub record Ready (T : Tables) : Type 0 where
@@ -21,15 +25,15 @@ pub record Ready (T : Tables) : Type 0 where
   pub right : records_right (records T) ≡ true
   pub fit : Fit (records T)
 
-module _ (T : Tables) (e : Edit) (v : ℕ) (f : v ≡ answer_over T e) where
-  pub refused : (v ≡ 0 → ⊥) → Called e T v T
-  refused n = record { answer = f; refused = λ q. refl; done = λ z. absurd (n z) }
+module _ (T : Tables) (e : Edit) where
+  pub refused : {A : Type 0} (r : Result A Refusal) (x : Refusal) → IsErr r × IsErrAnd r (λ y. y ≡ x) → number_of x ≡ answer_over T e → Called e T (answer_of r) T
+  refused r x h f = record { answer = passed r x _ h f; refused = λ q. refl; done = λ z. absurd (some x (sym (passed r x _ h refl) ∙ z)) }
 
-  module _ (z : v ≡ 0) where
+  module _ (f : 0 ≡ answer_over T e) where
     granted : (lengths_right T ≡ true) × (records_right (records T) ≡ true) × (first_no (questions (book_of (records T)) e) ≡ 0)
     unfolding answer_over
     granted =
-        let a = first_yes 0 (lengths_right T) _ (sym f ∙ z) in
+        let a = first_yes 0 (lengths_right T) _ (sym f) in
         let b = first_yes 1 (records_right (records T)) _ a.1 in
         (a.0, b.0, b.1)
 
@@ -42,7 +46,7 @@ module _ (T : Tables) (e : Edit) (v : ℕ) (f : v ≡ answer_over T e) where
         record { sized = s; right = granted.1; fit = records_fit (records T) s.blocks s.runs granted.1 }
 
     pub done : (T' : Tables) → Edited (target e) T (written (book_of (records T)) e) T' → Called e T 0 T'
-    done T' b = record { answer = sym z ∙ f; refused = λ q. absurd (q refl); done = λ q. b }
+    done T' b = record { answer = f; refused = λ q. absurd (q refl); done = λ q. b }
 
 -- a displacement goes through its bits wherever it is handed on
 pub plain_move : (T T' : Tables) (n r : ℕ) (de dn : ℤ) → SFits w16 de → SFits w16 dn

@@ -4,13 +4,16 @@ use mathlib.Core.List.{List, [], ◌∷◌}
 use mathlib.Core.Bool.{Bool, true, false, ◌&&◌, not}
 use Prim.Native.Nat.{ℕ, ◌+◌, ◌*◌, ◌-◌, ◌/◌, ◌<◌, ◌≤◌}
 use native.Mathlib.Omega.{arith}
-use lib.Dec.{eqb}
 use lib.IntN.{ℤ}
 use lib.ListN.{length, take, drop}
 use mir.Syntax.{w16}
 use mir.Val.{SFits, to_z, of_z}
 use mir.ValLaws.{to_z-of_z}
 use borrow.Author.Tests.{lt-ltb, le-ltb, ltb-true, eq-eqb, ne_eqb, not-true, not-false}
+use Rattle.refusals.specs.declared.Refusal.{Refusal}
+use Rattle.std.specs.Prelude.{Result, Ok, Err, IsErr, IsErrAnd}
+use Rattle.refusals.specs.Numbers.{number_of as question, answer_of}
+use Rattle.refusals.proofs.Numbers.{number_of_some}
 use Rattle.lists.specs.Lists.{all}
 use Rattle.geometry.specs.Words.{Point, word, block_words, corners}
 use Rattle.geometry.specs.Convexity.{convex}
@@ -27,7 +30,7 @@ use Rattle.book.specs.Questions.{Question, ask, first_no, lengths_right, number_
 use Rattle.book.specs.Book.{Edit, add_block, remove_block, move_block, add_run, remove_run, move_run, set_charge, Book, free, questions}
 use Rattle.book.specs.inner.Named.{number_of, named}
 use Rattle.book.specs.Edits.{book_of, fitness, answer_over}
-use Rattle.book.proofs.Questions.{sized_of, lengths_yes, lengths_no, first_yes, first_more, Fitting, fitting}
+use Rattle.book.proofs.Questions.{sized_of, lengths_yes, first_yes, first_more, Fitting, fitting}
 use Rattle.book.proofs.Stored.{book_block, block_free, run_free}
 
 pub no_of : (t b : Bool) → t ≡ b → not t ≡ true → b ≡ false
@@ -36,24 +39,17 @@ no_of t b e n = sym e ∙ not-true t n
 pub yes_of : (t b : Bool) → t ≡ b → not t ≡ false → b ≡ true
 yes_of t b e n = sym e ∙ not-false t n
 
+-- what `?` hands on is the same refusal
+pub passed : {A : Type 0} (r : Result A Refusal) (e : Refusal) (v : ℕ) → IsErr r × IsErrAnd r (λ x. x ≡ e) → question e ≡ v → answer_of r ≡ v
+passed (Ok x) e v h f = absurd h.1
+passed (Err x) e v h f = ap question h.1 ∙ f
+
+-- no refusal has the number 0
+pub some : (e : Refusal) → question e ≡ 0 → ⊥
+some e z = omega (arith, number_of_some e)
+
 -- ---- question 1
 module _ (b r p s t : List ℕ) where
-  pub blocks_off : (length b ≡ 408 → ⊥) → false ≡ lengths_right (tables b r p s t)
-  blocks_off h = sym (lengths_no (tables b r p s t) (λ z. h z.blocks))
-
-  pub runs_off : (length r ≡ 121 → ⊥) → false ≡ lengths_right (tables b r p s t)
-  runs_off h = sym (lengths_no (tables b r p s t) (λ z. h z.runs))
-
-  pub pairs_off : (length p ≡ 28680 → ⊥) → false ≡ lengths_right (tables b r p s t)
-  pairs_off h = sym (lengths_no (tables b r p s t) (λ z. h z.pairs))
-
-  pub routes_off : (length s ≡ 4728 → ⊥) → false ≡ lengths_right (tables b r p s t)
-  routes_off h = sym (lengths_no (tables b r p s t) (λ z. h z.routes))
-
-  pub totals_asked : length b ≡ 408 → length r ≡ 121 → length p ≡ 28680 → length s ≡ 4728 → eqb (length t) 25 ≡ lengths_right (tables b r p s t)
-  unfolding lengths_right
-  totals_asked eb er ep es = rw (eq-eqb _ _ eb, eq-eqb _ _ er, eq-eqb _ _ ep, eq-eqb _ _ es)
-
   module _ (u : Bool) (e : u ≡ lengths_right (tables b r p s t)) (y : not u ≡ false) where
     pub blocks_sized : length b ≡ 408
     blocks_sized = (sized_of (tables b r p s t) (yes_of u _ e y)).blocks
@@ -77,14 +73,14 @@ module _ (T : Tables) (t : Bool) (a : t ≡ lengths_right T) where
     fitness_none n = rw (yes_of t _ a y, yes_of u _ b n)
 
 -- ---- questions 1 to 3
-module _ (T : Tables) (v n : ℕ) (f : v ≡ fitness T) where
-  pub named_unfit : (v ≡ 0 → ⊥) → v ≡ named T n
-  named_unfit h = f ∙ first_more (ask 1 (lengths_right T) ∷ ask 2 (records_right (records T)) ∷ []) (ask 3 (number_right n) ∷ []) (λ z. h (f ∙ z))
+module _ (T : Tables) (n : ℕ) where
+  pub named_unfit : (e : Refusal) → question e ≡ fitness T → question e ≡ named T n
+  named_unfit e f = f ∙ first_more (ask 1 (lengths_right T) ∷ ask 2 (records_right (records T)) ∷ []) (ask 3 (number_right n) ∷ []) (λ z. some e (f ∙ z))
 
-  module _ (z : v ≡ 0) where
+  module _ (f : 0 ≡ fitness T) where
     fit_named : named T n ≡ first_no (ask 3 (number_right n) ∷ [])
     unfolding first_no
-    fit_named = let g = fitting T (sym f ∙ z) in rw (lengths_yes T g.sized, g.right)
+    fit_named = let g = fitting T (sym f) in rw (lengths_yes T g.sized, g.right)
 
     pub named_high : 24 ≤ n → 3 ≡ named T n
     unfolding first_no
@@ -105,22 +101,22 @@ asks_number b (remove_run m) = (drop 1 (questions b (remove_run m)), refl)
 asks_number b (move_run m p q) = (drop 1 (questions b (move_run m p q)), refl)
 asks_number b (set_charge f) = (questions b (set_charge f), refl)
 
-pub unnamed : (T : Tables) (e : Edit) (v : ℕ) → v ≡ named T (number_of e) → (v ≡ 0 → ⊥) → v ≡ answer_over T e
+pub unnamed : (T : Tables) (d : Edit) (e : Refusal) → question e ≡ named T (number_of d) → question e ≡ answer_over T d
 unfolding answer_over first_no
-unnamed T e v f n =
-    let q = asks_number (book_of (records T)) e in
-    rw q.1 (f ∙ first_more (ask 1 (lengths_right T) ∷ ask 2 (records_right (records T)) ∷ ask 3 (number_right (number_of e)) ∷ []) q.0 (λ z. n (f ∙ z)))
+unnamed T d e f =
+    let q = asks_number (book_of (records T)) d in
+    rw q.1 (f ∙ first_more (ask 1 (lengths_right T) ∷ ask 2 (records_right (records T)) ∷ ask 3 (number_right (number_of d)) ∷ []) q.0 (λ z. some e (f ∙ z)))
 
 -- the figure
-module _ (T : Tables) (v g : ℕ) (f : v ≡ fitness T) where
-  pub charge_unfit : (v ≡ 0 → ⊥) → v ≡ answer_over T (set_charge g)
+module _ (T : Tables) (g : ℕ) where
+  pub charge_unfit : (e : Refusal) → question e ≡ fitness T → question e ≡ answer_over T (set_charge g)
   unfolding answer_over
-  charge_unfit h = f ∙ first_more (ask 1 (lengths_right T) ∷ ask 2 (records_right (records T)) ∷ []) (questions (book_of (records T)) (set_charge g)) (λ z. h (f ∙ z))
+  charge_unfit e f = f ∙ first_more (ask 1 (lengths_right T) ∷ ask 2 (records_right (records T)) ∷ []) (questions (book_of (records T)) (set_charge g)) (λ z. some e (f ∙ z))
 
-  module _ (z : v ≡ 0) (t : Bool) (a : t ≡ figure_right g) where
+  module _ (f : 0 ≡ fitness T) (t : Bool) (a : t ≡ figure_right g) where
     asked : answer_over T (set_charge g) ≡ first_no (questions (book_of (records T)) (set_charge g))
     unfolding answer_over first_no
-    asked = let k = fitting T (sym f ∙ z) in rw (lengths_yes T k.sized, k.right)
+    asked = let k = fitting T (sym f) in rw (lengths_yes T k.sized, k.right)
 
     pub charge_13 : not t ≡ true → 13 ≡ answer_over T (set_charge g)
     unfolding questions first_no
@@ -130,22 +126,15 @@ module _ (T : Tables) (v g : ℕ) (f : v ≡ fitness T) where
     unfolding questions first_no
     charge_0 n = rw (asked, yes_of t _ a n)
 
--- question 7 of both ends
-pub ends_yes : (t u a b : Bool) → t ≡ a → t ≡ true → u ≡ b → u ≡ a && b
-ends_yes t u a b e h f = f ∙ rw (sym e ∙ h)
-
-pub ends_no : (t a b : Bool) → t ≡ a → t ≡ false → false ≡ a && b
-ends_no t a b e h = rw (sym e ∙ h)
-
 -- ---- the edits' own questions
-module _ (T : Tables) (v n : ℕ) (f : v ≡ named T n) (z : v ≡ 0) where
+module _ (T : Tables) (n : ℕ) (f : 0 ≡ named T n) where
   pub named_fitting : Fitting T
   named_fitting =
-      let a = first_yes 0 (lengths_right T) _ (sym f ∙ z) in
+      let a = first_yes 0 (lengths_right T) _ (sym f) in
       record { sized = sized_of T a.0; right = (first_yes 1 (records_right (records T)) _ a.1).0 }
 
   below : number_right n ≡ true
-  below = (first_yes 2 (number_right n) _ (first_yes 1 _ _ (first_yes 0 _ _ (sym f ∙ z)).1).1).0
+  below = (first_yes 2 (number_right n) _ (first_yes 1 _ _ (first_yes 0 _ _ (sym f)).1).1).0
 
   pub number_below : n < 24
   number_below = ltb-true n 24 below
@@ -251,12 +240,12 @@ module _ (T : Tables) (v n : ℕ) (f : v ≡ named T n) (z : v ≡ 0) where
       add_run_0 b = rw (own (add_run n p q), below, unused_place, yes_of _ _ a b)
 
 -- what a call may read once the tables are fit
-module _ (b r p s t : List ℕ) (v n : ℕ) (f : v ≡ named (tables b r p s t) n) (z : v ≡ 0) where
+module _ (b r p s t : List ℕ) (n : ℕ) (f : 0 ≡ named (tables b r p s t) n) where
   facts : Fitting (tables b r p s t)
-  facts = named_fitting (tables b r p s t) v n f z
+  facts = named_fitting (tables b r p s t) n f
 
   h : n < 24
-  h = number_below (tables b r p s t) v n f z
+  h = number_below (tables b r p s t) n f
 
   pub in_blocks : 17 * n < length b
   in_blocks = omega (arith, h, facts.sized.blocks)

@@ -1,7 +1,8 @@
-// The questions put to each edit, in order: the number of the first that is answered no, over any tables.
+// The questions put to each edit, in order: the first that is answered no, over any tables.
 #![tactic(auto)]
 
 ghost use Rattle.std.specs.Prelude.{◌≡◌, ◌&&◌};
+ghost use Rattle.refusals.specs.Numbers.{answer_of};
 ghost use Rattle.geometry.specs.Words.{point_of};
 ghost use Rattle.tables.specs.Tables.{tables};
 ghost use Rattle.records.specs.Questions.{place_right};
@@ -15,8 +16,10 @@ use moves::shifts_right;
 use records::{
     coordinates_right, count_right, figure_right, new_record, place_right, records_right,
 };
+use refusals::Refusal;
 
 // Question 1.
+#[tactic(auto, unfolding(book::specs::Questions::lengths_right))]
 pub fn lengths_right(
     blocks: &[u16],
     runs: &[u16],
@@ -26,32 +29,30 @@ pub fn lengths_right(
 ) -> bool
     ensures { result ≡ lengths_right (tables blocks.now runs.now pairs.now routes.now totals.now) }
 {
-    if blocks.len() != 408 {
-        return false;
-    }
-    if runs.len() != 121 {
-        return false;
-    }
-    if pairs.len() != 28680 {
-        return false;
-    }
-    if routes.len() != 4728 {
-        return false;
-    }
-    totals.len() == 25
+    blocks.len() == 408
+        && runs.len() == 121
+        && pairs.len() == 28680
+        && routes.len() == 4728
+        && totals.len() == 25
 }
 
 // Questions 1 and 2.
-pub fn fitness(blocks: &[u16], runs: &[u16], pairs: &[u8], routes: &[u32], totals: &[u32]) -> u32
-    ensures { result ≡ fitness (tables blocks.now runs.now pairs.now routes.now totals.now) }
+pub fn fitness(
+    blocks: &[u16],
+    runs: &[u16],
+    pairs: &[u8],
+    routes: &[u32],
+    totals: &[u32],
+) -> Result<(), Refusal>
+    ensures { answer_of result ≡ fitness (tables blocks.now runs.now pairs.now routes.now totals.now) }
 {
     if !lengths_right(blocks, runs, pairs, routes, totals) {
-        return 1;
+        return Err(Refusal::WrongLengths);
     }
     if !records_right(blocks, runs) {
-        return 2;
+        return Err(Refusal::WrongRecords);
     }
-    0
+    Ok(())
 }
 
 // Questions 1 to 3.
@@ -62,17 +63,14 @@ pub fn named(
     routes: &[u32],
     totals: &[u32],
     number: u32,
-) -> u32
-    ensures { result ≡ named (tables blocks.now runs.now pairs.now routes.now totals.now) number }
+) -> Result<(), Refusal>
+    ensures { answer_of result ≡ named (tables blocks.now runs.now pairs.now routes.now totals.now) number }
 {
-    let v = fitness(blocks, runs, pairs, routes, totals);
-    if v != 0 {
-        return v;
-    }
+    fitness(blocks, runs, pairs, routes, totals)?;
     if 24 <= number {
-        return 3;
+        return Err(Refusal::NoSuchNumber);
     }
-    0
+    Ok(())
 }
 
 pub fn add_block_answer(
@@ -83,29 +81,26 @@ pub fn add_block_answer(
     totals: &[u32],
     number: u32,
     corners: &[u16],
-) -> u32
-    ensures { result ≡ answer_over (tables blocks.now runs.now pairs.now routes.now totals.now)
+) -> Result<(), Refusal>
+    ensures { answer_of result ≡ answer_over (tables blocks.now runs.now pairs.now routes.now totals.now)
         (add_block number corners.now) }
 {
-    let v = named(blocks, runs, pairs, routes, totals, number);
-    if v != 0 {
-        return v;
-    }
+    named(blocks, runs, pairs, routes, totals, number)?;
     let n = number as usize;
     if blocks[17 * n] != 0 {
-        return 4;
+        return Err(Refusal::Taken);
     }
     if !count_right(corners) {
-        return 6;
+        return Err(Refusal::WrongCount);
     }
     if !coordinates_right(corners) {
-        return 7;
+        return Err(Refusal::OffTheYard);
     }
     let words = new_record(corners);
     if !is_convex(&words) {
-        return 8;
+        return Err(Refusal::NotConvex);
     }
-    0
+    Ok(())
 }
 
 pub fn remove_block_answer(
@@ -115,19 +110,16 @@ pub fn remove_block_answer(
     routes: &[u32],
     totals: &[u32],
     number: u32,
-) -> u32
-    ensures { result ≡ answer_over (tables blocks.now runs.now pairs.now routes.now totals.now)
+) -> Result<(), Refusal>
+    ensures { answer_of result ≡ answer_over (tables blocks.now runs.now pairs.now routes.now totals.now)
         (remove_block number) }
 {
-    let v = named(blocks, runs, pairs, routes, totals, number);
-    if v != 0 {
-        return v;
-    }
+    named(blocks, runs, pairs, routes, totals, number)?;
     let n = number as usize;
     if blocks[17 * n] == 0 {
-        return 5;
+        return Err(Refusal::Absent);
     }
-    0
+    Ok(())
 }
 
 pub fn move_block_answer(
@@ -139,32 +131,26 @@ pub fn move_block_answer(
     number: u32,
     east: i16,
     north: i16,
-) -> u32
-    ensures { result ≡ answer_over (tables blocks.now runs.now pairs.now routes.now totals.now)
+) -> Result<(), Refusal>
+    ensures { answer_of result ≡ answer_over (tables blocks.now runs.now pairs.now routes.now totals.now)
         (move_block number east north) }
 {
-    let v = named(blocks, runs, pairs, routes, totals, number);
-    if v != 0 {
-        return v;
-    }
+    named(blocks, runs, pairs, routes, totals, number)?;
     let n = number as usize;
     if blocks[17 * n] == 0 {
-        return 5;
+        return Err(Refusal::Absent);
     }
     if !shifts_right(&blocks[17 * n..17 * n + 17], east, north) {
-        return 7;
+        return Err(Refusal::OffTheYard);
     }
-    0
+    Ok(())
 }
 
 // Question 7 of a run's two ends.
 fn ends_right(first: Place, second: Place) -> bool
     ensures { result ≡ place_right (point_of first) && place_right (point_of second) }
 {
-    if place_right(first) {
-        return place_right(second);
-    }
-    false
+    place_right(first) && place_right(second)
 }
 
 pub fn add_run_answer(
@@ -176,22 +162,19 @@ pub fn add_run_answer(
     number: u32,
     first: Place,
     second: Place,
-) -> u32
-    ensures { result ≡ answer_over (tables blocks.now runs.now pairs.now routes.now totals.now)
+) -> Result<(), Refusal>
+    ensures { answer_of result ≡ answer_over (tables blocks.now runs.now pairs.now routes.now totals.now)
         (add_run number (point_of first) (point_of second)) }
 {
-    let v = named(blocks, runs, pairs, routes, totals, number);
-    if v != 0 {
-        return v;
-    }
+    named(blocks, runs, pairs, routes, totals, number)?;
     let m = number as usize;
     if runs[5 * m] != 0 {
-        return 4;
+        return Err(Refusal::Taken);
     }
     if !ends_right(first, second) {
-        return 7;
+        return Err(Refusal::OffTheYard);
     }
-    0
+    Ok(())
 }
 
 pub fn remove_run_answer(
@@ -201,19 +184,16 @@ pub fn remove_run_answer(
     routes: &[u32],
     totals: &[u32],
     number: u32,
-) -> u32
-    ensures { result ≡ answer_over (tables blocks.now runs.now pairs.now routes.now totals.now)
+) -> Result<(), Refusal>
+    ensures { answer_of result ≡ answer_over (tables blocks.now runs.now pairs.now routes.now totals.now)
         (remove_run number) }
 {
-    let v = named(blocks, runs, pairs, routes, totals, number);
-    if v != 0 {
-        return v;
-    }
+    named(blocks, runs, pairs, routes, totals, number)?;
     let m = number as usize;
     if runs[5 * m] == 0 {
-        return 5;
+        return Err(Refusal::Absent);
     }
-    0
+    Ok(())
 }
 
 pub fn move_run_answer(
@@ -225,22 +205,19 @@ pub fn move_run_answer(
     number: u32,
     first: Place,
     second: Place,
-) -> u32
-    ensures { result ≡ answer_over (tables blocks.now runs.now pairs.now routes.now totals.now)
+) -> Result<(), Refusal>
+    ensures { answer_of result ≡ answer_over (tables blocks.now runs.now pairs.now routes.now totals.now)
         (move_run number (point_of first) (point_of second)) }
 {
-    let v = named(blocks, runs, pairs, routes, totals, number);
-    if v != 0 {
-        return v;
-    }
+    named(blocks, runs, pairs, routes, totals, number)?;
     let m = number as usize;
     if runs[5 * m] == 0 {
-        return 5;
+        return Err(Refusal::Absent);
     }
     if !ends_right(first, second) {
-        return 7;
+        return Err(Refusal::OffTheYard);
     }
-    0
+    Ok(())
 }
 
 pub fn set_charge_answer(
@@ -250,16 +227,13 @@ pub fn set_charge_answer(
     routes: &[u32],
     totals: &[u32],
     figure: u16,
-) -> u32
-    ensures { result ≡ answer_over (tables blocks.now runs.now pairs.now routes.now totals.now)
+) -> Result<(), Refusal>
+    ensures { answer_of result ≡ answer_over (tables blocks.now runs.now pairs.now routes.now totals.now)
         (set_charge figure) }
 {
-    let v = fitness(blocks, runs, pairs, routes, totals);
-    if v != 0 {
-        return v;
+    fitness(blocks, runs, pairs, routes, totals)?;
+    if !figure_right(u64::from(figure)) {
+        return Err(Refusal::FigureTooHigh);
     }
-    if !figure_right(figure as u64) {
-        return 13;
-    }
-    0
+    Ok(())
 }

@@ -1,5 +1,5 @@
 -- An accepted edit of a block: its record is a sound one, and the contract is met by the tables that follow.
-use mathlib.Core.Path.{◌≡◌, refl}
+use mathlib.Core.Path.{◌≡◌}
 use mathlib.Core.List.{List, [], map}
 use mathlib.Core.Bool.{true}
 use mathlib.Core.Logic.{◌⊎◌, inl, inr}
@@ -62,11 +62,11 @@ block_ready T n ps r h p =
       right = λ ws e. rw e (block_upright (block_record ps) (block_record_length ps (block_small ps p)) (block_right_lem ps p));
     }
 
-module _ (T : Tables) (n v : ℕ) (ws : List ℕ) (f : v ≡ answer_over T (add_block n ws)) (z : v ≡ 0) where
+module _ (T : Tables) (n : ℕ) (ws : List ℕ) (f : 0 ≡ answer_over T (add_block n ws)) where
   add_parts : (n < 24) × (count_right ws ≡ true) × StandingCorners (lent_places ws)
   unfolding questions
   add_parts =
-      let q₃ = first_yes 2 _ _ (own T (add_block n ws) v f z) in
+      let q₃ = first_yes 2 _ _ (own T (add_block n ws) f) in
       let q₄ = first_yes 3 _ _ q₃.1 in
       let q₆ = first_yes 5 _ _ q₄.1 in
       let q₇ = first_yes 6 _ _ q₆.1 in
@@ -77,38 +77,38 @@ module _ (T : Tables) (n v : ℕ) (ws : List ℕ) (f : v ≡ answer_over T (add_
   add_count = add_parts.1
 
   pub add_ready : BlockReady T n (lent_places ws)
-  add_ready = let a = add_parts in block_ready T n (lent_places ws) (ready T _ v f z) a.0 (standing a.2)
+  add_ready = let a = add_parts in block_ready T n (lent_places ws) (ready T _ f) a.0 (standing a.2)
 
   pub add_done : (rec : List ℕ) (T' : Tables) → rec ≡ block_record (lent_places ws) → BlockEdited T n rec T' → Called (add_block n ws) T 0 T'
   unfolding written
-  add_done rec T' e b = done T (add_block n ws) v f z T' (rw e at b)
+  add_done rec T' e b = done T (add_block n ws) f T' (rw e at b)
 
-module _ (T : Tables) (n v : ℕ) (f : v ≡ answer_over T (remove_block n)) (z : v ≡ 0) where
+module _ (T : Tables) (n : ℕ) (f : 0 ≡ answer_over T (remove_block n)) where
   pub remove_ready : BlockReady T n []
   unfolding questions
   remove_ready =
-      let q₃ = first_yes 2 _ _ (own T (remove_block n) v f z) in
-      block_ready T n [] (ready T _ v f z) (ltb-true n 24 q₃.0) vacant
+      let q₃ = first_yes 2 _ _ (own T (remove_block n) f) in
+      block_ready T n [] (ready T _ f) (ltb-true n 24 q₃.0) vacant
 
   pub remove_done : (T' : Tables) → BlockEdited T n (replicate 17 0) T' → Called (remove_block n) T 0 T'
   unfolding written
-  remove_done T' b = done T (remove_block n) v f z T' (rw block_record_none b)
+  remove_done T' b = done T (remove_block n) f T' (rw block_record_none b)
 
-module _ (T : Tables) (n v : ℕ) (de dn : ℤ) (f : v ≡ answer_over T (move_block n de dn)) (z : v ≡ 0) where
+module _ (T : Tables) (n : ℕ) (de dn : ℤ) (f : 0 ≡ answer_over T (move_block n de dn)) where
   pub move_below : n < 24
   unfolding questions
-  move_below = ltb-true n 24 (first_yes 2 _ _ (own T (move_block n de dn) v f z)).0
+  move_below = ltb-true n 24 (first_yes 2 _ _ (own T (move_block n de dn) f)).0
 
   pub move_right : all (shift_right de dn) (corners (block_words T.blocks n)) ≡ true
   unfolding questions
   move_right =
-      let q₃ = first_yes 2 _ _ (own T (move_block n de dn) v f z) in
+      let q₃ = first_yes 2 _ _ (own T (move_block n de dn) f) in
       let q₅ = first_yes 4 _ _ q₃.1 in
       rw (book_block (records T) n move_below) at (first_yes 6 _ _ q₅.1).0
 
   pub move_ready : BlockReady T n (map (shifted de dn) (corners (block_words T.blocks n)))
   move_ready =
-      let r = ready T _ v f z in
+      let r = ready T _ f in
       let a = block_allowed (records T) r.sized.blocks r.sized.runs r.right n move_below in
       block_ready T n (map (shifted de dn) (corners (block_words T.blocks n))) r move_below
       (shifted_place de dn (corners (block_words T.blocks n)) (block_place (block_words T.blocks n) a) move_right)
@@ -126,4 +126,4 @@ module _ (T : Tables) (n v : ℕ) (de dn : ℤ) (f : v ≡ answer_over T (move_b
   pub move_done : (rec : List ℕ) (T' : Tables) → rec ≡ block_record (map (shifted de dn) (corners (take (17 * n + 17 - 17 * n) (drop (17 * n) T.blocks))))
       → BlockEdited T n rec T' → Called (move_block n de dn) T 0 T'
   unfolding written
-  move_done rec T' e b = done T (move_block n de dn) v f z T' (rw (book_block (records T) n move_below, ← (rw (part_is T.blocks n) at e)) b)
+  move_done rec T' e b = done T (move_block n de dn) f T' (rw (book_block (records T) n move_below, ← (rw (part_is T.blocks n) at e)) b)

@@ -1,8 +1,9 @@
 // The three edits of blocks, over five tables that the caller lends.
-// Each answers the number of the first question that is answered no, and then changes no table; 0 means done.
+// Each is refused by the first question that is answered no, and then changes no table.
 #![tactic(auto)]
 
 ghost use Rattle.std.specs.Prelude.{◌≡◌, ◌<◌, length, replicate};
+ghost use Rattle.refusals.specs.Numbers.{answer_of};
 ghost use Rattle.tables.specs.Tables.{tables, stored};
 ghost use Rattle.codes.specs.inner.Codes.{RightRecord, Upright};
 ghost use Rattle.book.specs.Book.{add_block, remove_block, move_block};
@@ -13,6 +14,7 @@ use lists::put_words;
 use moves::moved_record;
 use records::new_record;
 use redrawing::redraw_block;
+use refusals::Refusal;
 use routing::all_routes;
 use totals::write_totals;
 
@@ -68,18 +70,15 @@ pub fn add_block(
     totals: &mut [u32],
     number: u32,
     corners: &[u16],
-) -> u32
+) -> Result<(), Refusal>
     ensures { Called (add_block number corners.now)
         (tables blocks.old runs.now pairs.old routes.old totals.old)
-        result (tables blocks.new runs.now pairs.new routes.new totals.new) }
+        (answer_of result) (tables blocks.new runs.now pairs.new routes.new totals.new) }
 {
-    let v = add_block_answer(blocks, runs, pairs, routes, totals, number, corners);
-    if v != 0 {
-        return v;
-    }
+    add_block_answer(blocks, runs, pairs, routes, totals, number, corners)?;
     let words = new_record(corners);
     replace_block(blocks, runs, pairs, routes, totals, number as usize, &words);
-    0
+    Ok(())
 }
 
 pub fn remove_block(
@@ -89,17 +88,14 @@ pub fn remove_block(
     routes: &mut [u32],
     totals: &mut [u32],
     number: u32,
-) -> u32
+) -> Result<(), Refusal>
     ensures { Called (remove_block number)
         (tables blocks.old runs.now pairs.old routes.old totals.old)
-        result (tables blocks.new runs.now pairs.new routes.new totals.new) }
+        (answer_of result) (tables blocks.new runs.now pairs.new routes.new totals.new) }
 {
-    let v = remove_block_answer(blocks, runs, pairs, routes, totals, number);
-    if v != 0 {
-        return v;
-    }
+    remove_block_answer(blocks, runs, pairs, routes, totals, number)?;
     erase_block(blocks, runs, pairs, routes, totals, number as usize);
-    0
+    Ok(())
 }
 
 // Block number moved by a displacement.
@@ -112,17 +108,14 @@ pub fn move_block(
     number: u32,
     east: i16,
     north: i16,
-) -> u32
+) -> Result<(), Refusal>
     ensures { Called (move_block number east north)
         (tables blocks.old runs.now pairs.old routes.old totals.old)
-        result (tables blocks.new runs.now pairs.new routes.new totals.new) }
+        (answer_of result) (tables blocks.new runs.now pairs.new routes.new totals.new) }
 {
-    let v = move_block_answer(blocks, runs, pairs, routes, totals, number, east, north);
-    if v != 0 {
-        return v;
-    }
+    move_block_answer(blocks, runs, pairs, routes, totals, number, east, north)?;
     let n = number as usize;
     let words = moved_record(&blocks[17 * n..17 * n + 17], east, north);
     replace_block(blocks, runs, pairs, routes, totals, n, &words);
-    0
+    Ok(())
 }

@@ -8,11 +8,11 @@ use Rattle.book.specs.Edits.{answer_over, FigureEdited, Called}
 use Rattle.book.proofs.Questions.{first_yes}
 use Rattle.answers.proofs.Accepting.{Ready, own, ready, done}
 
-module _ (T : Tables) (v g : ℕ) (f : v ≡ answer_over T (set_charge g)) (z : v ≡ 0) where
+module _ (T : Tables) (g : ℕ) (f : 0 ≡ answer_over T (set_charge g)) where
   pub charge_ready : Ready T × (g ≤ 1000)
   unfolding questions
-  charge_ready = (ready T _ v f z, leb-true g 1000 (first_yes 12 _ _ (own T (set_charge g) v f z)).0)
+  charge_ready = (ready T _ f, leb-true g 1000 (first_yes 12 _ _ (own T (set_charge g) f)).0)
 
   pub charge_done : (T' : Tables) → FigureEdited T g T' → Called (set_charge g) T 0 T'
   unfolding written
-  charge_done T' b = done T (set_charge g) v f z T' b
+  charge_done T' b = done T (set_charge g) f T' b

@@ -1,14 +1,16 @@
 // The edit of the figure, what a straight longer than 0 is charged at least, over five tables that the caller lends.
-// It answers the number of the first question that is answered no, and then changes no table; 0 means done.
+// It is refused by the first question that is answered no, and then changes no table.
 #![tactic(auto)]
 
 ghost use Rattle.std.specs.Prelude.{◌≡◌, ◌≤◌, length};
+ghost use Rattle.refusals.specs.Numbers.{answer_of};
 ghost use Rattle.tables.specs.Tables.{tables, stored};
 ghost use Rattle.tables.specs.inner.Fit.{Fit};
 ghost use Rattle.book.specs.Book.{set_charge};
 ghost use Rattle.book.specs.Edits.{FigureEdited, Called};
 
 use answers::set_charge_answer;
+use refusals::Refusal;
 use routing::all_routes;
 use totals::write_totals;
 
@@ -38,15 +40,12 @@ pub fn set_charge(
     routes: &mut [u32],
     totals: &mut [u32],
     figure: u16,
-) -> u32
+) -> Result<(), Refusal>
     ensures { Called (set_charge figure)
         (tables blocks.now runs.old pairs.now routes.old totals.old)
-        result (tables blocks.now runs.new pairs.now routes.new totals.new) }
+        (answer_of result) (tables blocks.now runs.new pairs.now routes.new totals.new) }
 {
-    let v = set_charge_answer(blocks, runs, pairs, routes, totals, figure);
-    if v != 0 {
-        return v;
-    }
+    set_charge_answer(blocks, runs, pairs, routes, totals, figure)?;
     replace_figure(blocks, runs, pairs, routes, totals, figure);
-    0
+    Ok(())
 }

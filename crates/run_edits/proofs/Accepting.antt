@@ -19,38 +19,38 @@ pub record RunReady (T : Tables) (m : ℕ) (ws : List ℕ) : Type 0 where
   pub below : m < 24
   pub bounded : BoundedRun ws
 
-module _ (T : Tables) (m v : ℕ) (p q : Point) where
-  module _ (f : v ≡ answer_over T (add_run m p q)) (z : v ≡ 0) where
+module _ (T : Tables) (m : ℕ) (p q : Point) where
+  module _ (f : 0 ≡ answer_over T (add_run m p q)) where
     pub add_run_ready : RunReady T m (end_words p q)
     unfolding questions
     add_run_ready =
-        let q₃ = first_yes 2 _ _ (own T (add_run m p q) v f z) in
+        let q₃ = first_yes 2 _ _ (own T (add_run m p q) f) in
         let q₄ = first_yes 3 _ _ q₃.1 in
-        record { ready = ready T _ v f z; below = ltb-true m 24 q₃.0; bounded = ends_bounded p q (first_yes 6 _ _ q₄.1).0 }
+        record { ready = ready T _ f; below = ltb-true m 24 q₃.0; bounded = ends_bounded p q (first_yes 6 _ _ q₄.1).0 }
 
     pub add_run_done : (T' : Tables) → RunEdited T m (end_words p q) T' → Called (add_run m p q) T 0 T'
     unfolding written
-    add_run_done T' b = done T (add_run m p q) v f z T' (rw (run_record_two p q) b)
+    add_run_done T' b = done T (add_run m p q) f T' (rw (run_record_two p q) b)
 
-  module _ (f : v ≡ answer_over T (move_run m p q)) (z : v ≡ 0) where
+  module _ (f : 0 ≡ answer_over T (move_run m p q)) where
     pub move_run_ready : RunReady T m (end_words p q)
     unfolding questions
     move_run_ready =
-        let q₃ = first_yes 2 _ _ (own T (move_run m p q) v f z) in
+        let q₃ = first_yes 2 _ _ (own T (move_run m p q) f) in
         let q₅ = first_yes 4 _ _ q₃.1 in
-        record { ready = ready T _ v f z; below = ltb-true m 24 q₃.0; bounded = ends_bounded p q (first_yes 6 _ _ q₅.1).0 }
+        record { ready = ready T _ f; below = ltb-true m 24 q₃.0; bounded = ends_bounded p q (first_yes 6 _ _ q₅.1).0 }
 
     pub move_run_done : (T' : Tables) → RunEdited T m (end_words p q) T' → Called (move_run m p q) T 0 T'
     unfolding written
-    move_run_done T' b = done T (move_run m p q) v f z T' (rw (run_record_two p q) b)
+    move_run_done T' b = done T (move_run m p q) f T' (rw (run_record_two p q) b)
 
-module _ (T : Tables) (m v : ℕ) (f : v ≡ answer_over T (remove_run m)) (z : v ≡ 0) where
+module _ (T : Tables) (m : ℕ) (f : 0 ≡ answer_over T (remove_run m)) where
   pub remove_run_ready : RunReady T m (replicate 5 0)
   unfolding questions
   remove_run_ready =
-      let q₃ = first_yes 2 _ _ (own T (remove_run m) v f z) in
-      record { ready = ready T _ v f z; below = ltb-true m 24 q₃.0; bounded = no_run_bounded }
+      let q₃ = first_yes 2 _ _ (own T (remove_run m) f) in
+      record { ready = ready T _ f; below = ltb-true m 24 q₃.0; bounded = no_run_bounded }
 
   pub remove_run_done : (T' : Tables) → RunEdited T m (replicate 5 0) T' → Called (remove_run m) T 0 T'
   unfolding written
-  remove_run_done T' b = done T (remove_run m) v f z T' (rw run_record_none b)
+  remove_run_done T' b = done T (remove_run m) f T' (rw run_record_none b)

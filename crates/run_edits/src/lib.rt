@@ -1,9 +1,10 @@
 // The three edits of runs, over five tables that the caller lends.
-// Each answers the number of the first question that is answered no, and then changes no table; 0 means done.
+// Each is refused by the first question that is answered no, and then changes no table.
 #![tactic(auto)]
 
 ghost use Rattle.std.specs.Prelude.{◌≡◌, ◌<◌, length};
 ghost use Rattle.geometry.specs.Words.{point_of};
+ghost use Rattle.refusals.specs.Numbers.{answer_of};
 ghost use Rattle.tables.specs.Tables.{tables, stored};
 ghost use Rattle.tables.specs.inner.Fit.{BoundedRun, Fit};
 ghost use Rattle.book.specs.Book.{add_run, remove_run, move_run};
@@ -13,6 +14,7 @@ use answers::{add_run_answer, move_run_answer, remove_run_answer};
 use geometry::Place;
 use lists::put_words;
 use redrawing::redraw_run;
+use refusals::Refusal;
 use routing::all_routes;
 use totals::write_totals;
 
@@ -46,18 +48,15 @@ pub fn add_run(
     number: u32,
     first: Place,
     second: Place,
-) -> u32
+) -> Result<(), Refusal>
     ensures { Called (add_run number (point_of first) (point_of second))
         (tables blocks.now runs.old pairs.old routes.old totals.old)
-        result (tables blocks.now runs.new pairs.new routes.new totals.new) }
+        (answer_of result) (tables blocks.now runs.new pairs.new routes.new totals.new) }
 {
-    let v = add_run_answer(blocks, runs, pairs, routes, totals, number, first, second);
-    if v != 0 {
-        return v;
-    }
+    add_run_answer(blocks, runs, pairs, routes, totals, number, first, second)?;
     let words = [1, first.east, first.north, second.east, second.north];
     replace_run(blocks, runs, pairs, routes, totals, number as usize, &words);
-    0
+    Ok(())
 }
 
 pub fn remove_run(
@@ -67,18 +66,15 @@ pub fn remove_run(
     routes: &mut [u32],
     totals: &mut [u32],
     number: u32,
-) -> u32
+) -> Result<(), Refusal>
     ensures { Called (remove_run number)
         (tables blocks.now runs.old pairs.old routes.old totals.old)
-        result (tables blocks.now runs.new pairs.new routes.new totals.new) }
+        (answer_of result) (tables blocks.now runs.new pairs.new routes.new totals.new) }
 {
-    let v = remove_run_answer(blocks, runs, pairs, routes, totals, number);
-    if v != 0 {
-        return v;
-    }
+    remove_run_answer(blocks, runs, pairs, routes, totals, number)?;
     let words = [0u16; 5];
     replace_run(blocks, runs, pairs, routes, totals, number as usize, &words);
-    0
+    Ok(())
 }
 
 // Run number with both ends new.
@@ -91,16 +87,13 @@ pub fn move_run(
     number: u32,
     first: Place,
     second: Place,
-) -> u32
+) -> Result<(), Refusal>
     ensures { Called (move_run number (point_of first) (point_of second))
         (tables blocks.now runs.old pairs.old routes.old totals.old)
-        result (tables blocks.now runs.new pairs.new routes.new totals.new) }
+        (answer_of result) (tables blocks.now runs.new pairs.new routes.new totals.new) }
 {
-    let v = move_run_answer(blocks, runs, pairs, routes, totals, number, first, second);
-    if v != 0 {
-        return v;
-    }
+    move_run_answer(blocks, runs, pairs, routes, totals, number, first, second)?;
     let words = [1, first.east, first.north, second.east, second.north];
     replace_run(blocks, runs, pairs, routes, totals, number as usize, &words);
-    0
+    Ok(())
 }

@@ -1,12 +1,14 @@
 // The empty yard and the check, over five tables that the caller lends; the edits are those of block_edits and run_edits.
 #![tactic(auto)]
 
+ghost use Rattle.refusals.specs.Numbers.{answer_of};
 ghost use Rattle.tables.specs.Tables.{tables};
 ghost use Rattle.book.specs.Edits.{Started, Checked};
 
 use answers::{fitness, lengths_right};
 use lists::{fill8, fill16, fill32};
 use redrawing::pairs_right;
+use refusals::Refusal;
 use routing::routes_right;
 use totals::totals_right;
 
@@ -17,37 +19,40 @@ pub fn start(
     pairs: &mut [u8],
     routes: &mut [u32],
     totals: &mut [u32],
-) -> u32
+) -> Result<(), Refusal>
     ensures { Started (tables blocks.old runs.old pairs.old routes.old totals.old)
-        result (tables blocks.new runs.new pairs.new routes.new totals.new) }
+        (answer_of result) (tables blocks.new runs.new pairs.new routes.new totals.new) }
 {
     if !lengths_right(blocks, runs, pairs, routes, totals) {
-        return 1;
+        return Err(Refusal::WrongLengths);
     }
     fill16(blocks, 0);
     fill16(runs, 0);
     fill8(pairs, 255);
     fill32(routes, 0);
     fill32(totals, 0);
-    0
+    Ok(())
 }
 
-// Whether pairs, routes and totals are what the stored blocks and runs require: 11 where they are not.
-pub fn check(blocks: &[u16], runs: &[u16], pairs: &[u8], routes: &[u32], totals: &[u32]) -> u32
-    ensures { Checked (tables blocks.now runs.now pairs.now routes.now totals.now) result }
+// Whether pairs, routes and totals are what the stored blocks and runs require; they are out of date where they are not.
+pub fn check(
+    blocks: &[u16],
+    runs: &[u16],
+    pairs: &[u8],
+    routes: &[u32],
+    totals: &[u32],
+) -> Result<(), Refusal>
+    ensures { Checked (tables blocks.now runs.now pairs.now routes.now totals.now) (answer_of result) }
 {
-    let v = fitness(blocks, runs, pairs, routes, totals);
-    if v != 0 {
-        return v;
-    }
+    fitness(blocks, runs, pairs, routes, totals)?;
     if !pairs_right(blocks, runs, pairs) {
-        return 11;
+        return Err(Refusal::OutOfDate);
     }
     if !routes_right(blocks, runs, pairs, routes) {
-        return 11;
+        return Err(Refusal::OutOfDate);
     }
-    if totals_right(pairs, routes, totals) {
-        return 0;
+    if !totals_right(pairs, routes, totals) {
+        return Err(Refusal::OutOfDate);
     }
-    11
+    Ok(())
 }

@@ -1,14 +1,14 @@
-use Rattle.answers.proofs.Answers.{unnamed, in_runs, remove_run_5, remove_run_0}
+use Rattle.answers.proofs.Answers.{passed, unnamed, in_runs, remove_run_5, remove_run_0}
 use Rattle.answers.proofs.remove_run_answer.Goals as goal
 
-pub returns-then-v-ne0 : goal.returns-then-v-ne0
-returns-then-v-ne0 c = search unnamed
+pub returns-in_err-named : goal.returns-in_err-named
+returns-in_err-named c = passed _ _ _ c.from_residual.ensures (unnamed _ _ _ c.in_err-named.ensures)
 
 pub bounds-runs-m : goal.bounds-runs-m
-bounds-runs-m c = search in_runs
+bounds-runs-m c = search (in_runs, c.in_ok-named.ensures)
 
 pub returns-then-runs-m-eq0 : goal.returns-then-runs-m-eq0
-returns-then-runs-m-eq0 c = search remove_run_5
+returns-then-runs-m-eq0 c = search (remove_run_5, c.in_ok-named.ensures)
 
 pub returns : goal.returns
-returns c = search remove_run_0
+returns c = search (remove_run_0, c.in_ok-named.ensures)
