@@ -6,21 +6,18 @@ use native.Mathlib.Omega.{arith}
 use lib.Dec.{lit≤}
 use lib.IntN.{pos}
 use lib.Ieee.{Float}
-use mir.Syntax.{w16, w32, w64}
-use mir.Val.{Fits, to_z}
-use mir.ValLaws.{to_z_pos}
+use mir.Syntax.{w32, w64}
+use mir.Val.{Fits, to_z, of_z}
+use mir.ValLaws.{to_z-of_z}
 use Rattle.geometry.specs.Words.{Point}
 use Rattle.curves.specs.declared.Spot.{Spot}
 use Rattle.curves.specs.Floats.{Exact}
 use Rattle.curves.specs.Curve.{cube, bezier, curve, bend_at, whole, At}
 use Rattle.curves.specs.inner.Numerators.{Moderate, Mixed}
 
--- a numerator of 32 bits, and a coordinate of 16
-pub plain : (n : ℕ) → Fits w32 n → to_z w64 n ≡ pos n
-plain n f = to_z_pos w64 n (lt_of_lt_of_le f.fits (lit≤ {m = 2 ^ 32} {n = 2 ^ 63} tt))
-
-pub narrow : (x y : ℕ) → y ≡ x → Fits w16 x → y ≤ 65535
-narrow x y e f = omega (arith, f.fits)
+-- a numerator of 32 bits
+pub widened : (n : ℕ) → Fits w32 n → to_z w64 (of_z w64 (pos n)) ≡ pos n
+widened n f = to_z-of_z w64 _ (search (lt_of_lt_of_le f.fits (lit≤ {m = 2 ^ 32} {n = 2 ^ 63} tt)))
 
 pub moderate : (n : ℕ) → Fits w32 n → Moderate (pos n)
 unfolding Moderate

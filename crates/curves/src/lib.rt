@@ -27,13 +27,7 @@ fn coordinate(numerator: i64) -> f64
 fn share(numerator: u32) -> f64
     ensures { Exact (pos numerator) result }
 {
-    coordinate(numerator as i64)
-}
-
-fn wide(a: u16) -> u32
-    ensures { result ≡ a }
-{
-    a as u32
+    coordinate(i64::from(numerator))
 }
 
 fn cube(t: u32) -> u32
@@ -47,7 +41,7 @@ fn scaled(w: u32, x: u16) -> u32
     requires { w ≤ 4096 }
     ensures { (result ≡ w * x) × (result ≤ w * 65535) }
 {
-    w * wide(x)
+    w * u32::from(x)
 }
 
 fn mixed(from: u32, to: u32, a: u16, p: u16, c: u16) -> u32
@@ -81,7 +75,7 @@ pub fn placed(p: Place) -> Spot
     ensures { At (whole (point_of p)) result }
 {
     Spot {
-        east: share(4096 * wide(p.east)),
-        north: share(4096 * wide(p.north)),
+        east: share(4096 * u32::from(p.east)),
+        north: share(4096 * u32::from(p.north)),
     }
 }
