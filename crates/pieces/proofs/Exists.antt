@@ -10,7 +10,8 @@ use Rattle.geometry.specs.inner.Bounds.{InRange}
 use Rattle.curves.specs.Curve.{bend_at, whole, At}
 use Rattle.curves.proofs.Exists.{HasSpot, bend_spot_exists, whole_spot_exists}
 use Rattle.pieces.specs.declared.DrawnPiece.{DrawnPiece}
-use Rattle.pieces.specs.declared.DrawnPiece.TheVariants.{Nothing, Straight, Bend}
+use Rattle.pieces.specs.declared.DrawnPiece.TheVariants.{Straight, Bend}
+use Rattle.std.specs.Prelude.{Option, None, Some}
 use Rattle.pieces.specs.Pieces.{Shape, nothing, straight, bend, pieces_from, pieces}
 use Rattle.pieces.specs.Showing.{Shows, shows_nothing, shows_straight, shows_bend, spot_in, Row, origin, bend_points}
 
@@ -44,14 +45,14 @@ unfolding pieces
 piece_held [] g k = tt
 piece_held (a ∷ ps) g k = held_from (whole a) (a ∷ ps) (whole_spot_exists a g.0) g k
 
-pub shows_exists : (p : Shape) → Held p → (r : DrawnPiece) × Shows p r
-shows_exists nothing h = (Nothing, shows_nothing)
-shows_exists (straight a b) h = (Straight h.0.0 h.1.0, shows_straight h.0.1 h.1.1)
+pub shows_exists : (p : Shape) → Held p → (r : Option DrawnPiece) × Shows p r
+shows_exists nothing h = (None, shows_nothing)
+shows_exists (straight a b) h = (Some (Straight h.0.0 h.1.0), shows_straight h.0.1 h.1.1)
 shows_exists (bend a p c) h =
     let s = bend_spot_exists a p c 0 (omega arith) h.0 h.1 h.2 in
     let q = whole_spot_exists p h.1 in
     let t = bend_spot_exists a p c 8 (omega arith) h.0 h.1 h.2 in
-    (Bend s.0 q.0 t.0, shows_bend s.1 q.1 t.1)
+    (Some (Bend s.0 q.0 t.0), shows_bend s.1 q.1 t.1)
 
 -- ---- rows of spots
 pub row_exists : (f : ℕ → Point) (n : ℕ) → ((j : ℕ) → j < n → HasSpot (f j)) → (xs : List Float) × Row f n xs

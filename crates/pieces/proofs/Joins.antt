@@ -6,9 +6,10 @@ use lib.ListN.{get_or}
 use Rattle.geometry.specs.Words.{Point}
 use Rattle.curves.specs.Curve.{bend_at, whole, At}
 use Rattle.curves.specs.declared.Spot.{Spot}
+use Rattle.std.specs.Prelude.{Some}
 use Rattle.pieces.specs.declared.DrawnPiece.{DrawnPiece}
 use Rattle.pieces.specs.Pieces.{Shape, nothing, straight, bend, pieces_from, pieces}
-use Rattle.pieces.specs.Showing.{Shows, shows_nothing, shows_straight, shows_bend, Spans, straight_spans, bend_spans, origin}
+use Rattle.pieces.specs.Showing.{Shows, shows_straight, shows_bend, Spans, straight_spans, bend_spans, origin}
 
 abbrev pub start_of : Shape → Point
 start_of nothing = origin
@@ -81,18 +82,15 @@ unfolding pieces
 pieces_end d [] k h n = absurd h
 pieces_end d (a ∷ ps) k h n = ends (whole a) d (a ∷ ps) k h n
 
--- an answer in floats that shows a piece goes from its start to its finish
-pub spans_there : {p : Shape} {r : DrawnPiece} {s t : Spot} → Shows p r → Spans r s t → There p
+-- a drawn piece that shows a piece goes from its start to its finish
+pub spans_there : {p : Shape} {r : DrawnPiece} {s t : Spot} → Shows p (Some r) → Spans r s t → There p
 spans_there (shows_straight x y) straight_spans = tt
 spans_there (shows_bend x y z) bend_spans = tt
-spans_there shows_nothing w = elim w [ ]
 
-pub spans_start : {p : Shape} {r : DrawnPiece} {s t : Spot} → Shows p r → Spans r s t → At (start_of p) s
+pub spans_start : {p : Shape} {r : DrawnPiece} {s t : Spot} → Shows p (Some r) → Spans r s t → At (start_of p) s
 spans_start (shows_straight x y) straight_spans = x
 spans_start (shows_bend x y z) bend_spans = x
-spans_start shows_nothing w = elim w [ ]
 
-pub spans_finish : {p : Shape} {r : DrawnPiece} {s t : Spot} → Shows p r → Spans r s t → At (finish_of p) t
+pub spans_finish : {p : Shape} {r : DrawnPiece} {s t : Spot} → Shows p (Some r) → Spans r s t → At (finish_of p) t
 spans_finish (shows_straight x y) straight_spans = y
 spans_finish (shows_bend x y z) bend_spans = z
-spans_finish shows_nothing w = elim w [ ]

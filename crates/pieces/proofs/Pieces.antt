@@ -7,20 +7,17 @@ use native.Mathlib.Omega.{arith}
 use lib.Ieee.{Float}
 use lib.ListN.{length, get_or, take, drop, length-map, length-take, length-drop, get_or-map}
 use lib.Seq.{get_or-take, get_or-drop}
-use borrow.Author.Tests.{eq-eqb, ne_eqb, eqb-true}
-use lib.Dec.{eqb}
-use mathlib.Core.Bool.{false, true≢false}
-use Rattle.lists.specs.inner.Tells.{Tells}
-use Rattle.lists.proofs.Telling.{tells_no}
+use borrow.Author.Tests.{eq-eqb, ne_eqb}
+use mathlib.Core.Bool.{true, false}
+use Rattle.std.specs.Prelude.{None, Some}
 use Rattle.geometry.specs.Words.{Point, word}
 use Rattle.tables.specs.Tables.{Records, place_of}
 use Rattle.curves.specs.declared.Spot.{Spot}
-use Rattle.pieces.specs.declared.DrawnPiece.TheVariants.{Nothing, Straight, Bend}
+use Rattle.pieces.specs.declared.DrawnPiece.TheVariants.{Straight, Bend}
 use Rattle.curves.specs.Curve.{bend_at, whole, At}
 use Rattle.pieces.specs.Pieces.{nothing, straight, bend, pieces_from, pieces, route_places, piece_at}
 use Rattle.pieces.specs.Showing.{Shows, shows_nothing, shows_straight, shows_bend, origin, Row, Bent}
 use Rattle.pieces.specs.inner.Steps.{OnBend, Drawable, mark_place, turn_at, leaving, reaching}
-use Rattle.pieces.specs.declared.Shown.TheVariants.{Nine, Nothing as none}
 
 abbrev twice : ℕ → ℕ
 twice zero = zero
@@ -147,7 +144,7 @@ module _ (R : Records) (ws : List ℕ) (g : Drawable R ws) where
     pub is_nothing : 2 * n ≤ k + 3 → piece_at R ws k ≡ nothing
     is_nothing h = rw (from_first d places) (past_last d start places k (omega (arith, count_is)))
 
-    pub draws_nothing : 2 * n ≤ k + 3 → Shows (piece_at R ws k) Nothing
+    pub draws_nothing : 2 * n ≤ k + 3 → Shows (piece_at R ws k) None
     draws_nothing h = rw (is_nothing h) shows_nothing
 
     module _ (h : k + 3 < 2 * n) where
@@ -161,41 +158,25 @@ module _ (R : Records) (ws : List ℕ) (g : Drawable R ws) where
           let e : k ≡ suc (twice (k / 2)) = omega (arith, twice_is (k / 2)) in
           ap (λ (i : ℕ). piece_at R ws i) e ∙ bend_is (k / 2) (omega arith)
 
-      pub draws_straight : (s t : Spot) → k % 2 ≡ 0 → At (leaving R ws (k / 2)) s → At (reaching R ws (k / 2 + 1)) t → Shows (piece_at R ws k) (Straight s t)
+      pub draws_straight : (s t : Spot) → k % 2 ≡ 0 → At (leaving R ws (k / 2)) s → At (reaching R ws (k / 2 + 1)) t → Shows (piece_at R ws k) (Some (Straight s t))
       draws_straight s t z x y = rw (is_straight z) (shows_straight x y)
 
       pub draws_bend : (s q t : Spot) → (k % 2 ≡ 0 → ⊥) → At (turn_at R ws (k / 2 + 1) 0) s → At (whole (mark_place R ws (k / 2 + 1))) q
-          → At (turn_at R ws (k / 2 + 1) 8) t → Shows (piece_at R ws k) (Bend s q t)
+          → At (turn_at R ws (k / 2 + 1) 8) t → Shows (piece_at R ws k) (Some (Bend s q t))
       draws_bend s q t z x m y = let e : k / 2 + 1 - 1 ≡ k / 2 = omega arith in rw (is_bend z) (shows_bend (rw e at x) m (rw e at y))
 
     -- the nine points of piece k, where it is a bend
-    pub bent_none : (xs : List Float) → (OnBend ws k → ⊥) → Row (λ t. origin) 9 xs → Bent (piece_at R ws k) none xs
+    pub bent_none : (xs : List Float) → (OnBend ws k → ⊥) → Row (λ t. origin) 9 xs → Bent (piece_at R ws k) false xs
     bent_none xs o r = go (dec_lt (k + 3) (2 * n)) (ℕ_discrete (k % 2) 0)
       where
-        go : Dec (k + 3 < 2 * n) → Dec (k % 2 ≡ 0) → Bent (piece_at R ws k) none xs
+        go : Dec (k + 3 < 2 * n) → Dec (k % 2 ≡ 0) → Bent (piece_at R ws k) false xs
         go (no h) z = rw (is_nothing (omega arith)) (record { answer = refl; row = r })
         go (yes h) (yes z) = rw (is_straight h z) (record { answer = refl; row = r })
         go (yes h) (no z) = absurd (o (record { before_last = h; odd = omega arith }))
 
     pub bent_bend : (xs : List Float) (a p c : Point) → OnBend ws k → a ≡ mark_place R ws (k / 2) → p ≡ mark_place R ws (k / 2 + 1) → c ≡ mark_place R ws (k / 2 + 2)
-        → Row (bend_at a p c) 9 xs → Bent (piece_at R ws k) Nine xs
+        → Row (bend_at a p c) 9 xs → Bent (piece_at R ws k) true xs
     bent_bend xs a p c o ea ep ec r =
         let e : k / 2 + 1 + 1 ≡ k / 2 + 2 = omega arith in
         let z : k % 2 ≡ 0 → ⊥ = λ z. omega (arith, o.odd) in
         rw (is_bend o.before_last z) (record { answer = refl; row = rw (ea, ep, ec, sym (ap (mark_place R ws) e)) at r })
-
-module _ (ws : List ℕ) (k : ℕ) where
-  pub bend_not : 2 * word ws 2 ≤ k + 3 → Tells (OnBend ws k) false
-  bend_not h = tells_no (λ o. omega (arith, o.before_last))
-
-  pub bend_asked : k + 3 < 2 * word ws 2 → Tells (OnBend ws k) (eqb (k % 2) 1)
-  bend_asked h = record { yes' = λ e. record { before_last = h; odd = eqb-true (k % 2) 1 e }; no' = λ e o. true≢false (sym (eq-eqb (k % 2) 1 o.odd) ∙ e) }
-
-  pub bend_before : OnBend ws k → k / 2 < word ws 2
-  bend_before o = omega (arith, o.before_last, o.odd)
-
-  pub bend_here : OnBend ws k → k / 2 + 1 < word ws 2
-  bend_here o = omega (arith, o.before_last, o.odd)
-
-  pub bend_after : OnBend ws k → k / 2 + 2 < word ws 2
-  bend_after o = omega (arith, o.before_last, o.odd)

@@ -5,32 +5,13 @@ use Prim.Native.Nat.{ℕ, ◌+◌, ◌*◌, ◌<◌, ◌≤◌}
 use native.Mathlib.Decide.{ℕ_discrete}
 use native.Mathlib.Omega.{arith}
 use native.Mathlib.Nat.{mul-zero}
-use lib.ListN.{length, get_or, set, length-set}
-use lib.Seq.{get_or-set_same, get_or-set_other}
-use lib.Ieee.{Float, nan}
+use lib.ListN.{length}
+use lib.Ieee.{Float}
 use Rattle.geometry.specs.Words.{Point}
 use Rattle.curves.specs.declared.Spot.{Spot}
 use Rattle.curves.specs.Curve.{bezier, curve, bend_at, whole, At}
 use Rattle.pieces.specs.Showing.{origin, spot_in, Row}
 use Rattle.pieces.specs.inner.Steps.{RowTo, Put}
-
-pub put_is : (xs : List Float) (t : ℕ) (s : Spot) → 2 * t + 1 < length xs → Put xs t s (set (set xs (2 * t) s.east) (2 * t + 1) s.north)
-put_is xs t s h = record { sized = simp length-set; here = λ i. record { east = east i; north = north i }; kept = kept }
-  where
-    east : get_or (set (set xs (2 * t) s.east) (2 * t + 1) s.north) (2 * t) nan ≡ s.east
-    east = get_or-set_other (set xs (2 * t) s.east) (2 * t + 1) (2 * t) s.north nan (λ z. omega arith) ∙ get_or-set_same xs (2 * t) s.east nan (omega arith)
-
-    north : get_or (set (set xs (2 * t) s.east) (2 * t + 1) s.north) (2 * t + 1) nan ≡ s.north
-    north = get_or-set_same (set xs (2 * t) s.east) (2 * t + 1) s.north nan (simp length-set h)
-
-    other : (i : ℕ) → (i ≡ 2 * t → ⊥) → (i ≡ 2 * t + 1 → ⊥) → get_or (set (set xs (2 * t) s.east) (2 * t + 1) s.north) i nan ≡ get_or xs i nan
-    other i a b = get_or-set_other (set xs (2 * t) s.east) (2 * t + 1) i s.north nan b ∙ get_or-set_other xs (2 * t) i s.east nan a
-
-    kept : (j : ℕ) → (j ≡ t → ⊥) → spot_in (set (set xs (2 * t) s.east) (2 * t + 1) s.north) j ≡ spot_in xs j
-    kept j n =
-        let e = other (2 * j) (λ z. n (omega arith)) (λ z. omega arith) in
-        let f = other (2 * j + 1) (λ z. omega arith) (λ z. n (omega arith)) in
-        λ i. record { east = e i; north = f i }
 
 pub row_none : (f : ℕ → Point) (n : ℕ) (xs : List Float) → length xs ≡ 2 * n → RowTo f n 0 xs
 row_none f n xs e = record { sized = e; each = λ j h. absurd (omega arith) }

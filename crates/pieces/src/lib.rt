@@ -17,18 +17,8 @@ use tables::place_of;
 // A straight carries its two points, a bend its start, corner and finish.
 #[derive(Clone, Copy)]
 pub enum DrawnPiece {
-    Refused(u32),
-    Nothing,
     Straight(Spot, Spot),
     Bend(Spot, Spot, Spot),
-}
-
-// The answer of `bend_points`: a number, no bend, or nine points in the list.
-#[derive(Clone, Copy)]
-pub enum Shown {
-    Refused(u32),
-    Nothing,
-    Nine,
 }
 
 // The place of mark i of a route record.
@@ -73,24 +63,24 @@ fn reaching(blocks: &[u16], runs: &[u16], route: &[u32], i: usize) -> Spot
 }
 
 // Piece k of a route record.
-pub fn drawn(blocks: &[u16], runs: &[u16], route: &[u32], k: u32) -> DrawnPiece
+pub fn drawn(blocks: &[u16], runs: &[u16], route: &[u32], k: u32) -> Option<DrawnPiece>
     requires { Drawable (stored blocks.now runs.now) route.now }
     ensures { Shows (piece_at (stored blocks.now runs.now) route.now k) result }
 {
     let n = route[2] as usize;
     if 2 * n <= k as usize + 3 {
-        return DrawnPiece::Nothing;
+        return None;
     }
     let i = k as usize / 2;
     if k % 2 == 0 {
         let s = leaving(blocks, runs, route, i);
         let t = reaching(blocks, runs, route, i + 1);
-        return DrawnPiece::Straight(s, t);
+        return Some(DrawnPiece::Straight(s, t));
     }
     let start = turn_at(blocks, runs, route, i + 1, 0);
     let corner = placed(mark_place(blocks, runs, route, i + 1));
     let finish = turn_at(blocks, runs, route, i + 1, 8);
-    DrawnPiece::Bend(start, corner, finish)
+    Some(DrawnPiece::Bend(start, corner, finish))
 }
 
 // Spot t of a list.
@@ -108,10 +98,8 @@ fn put_curve(points: &mut [f64], a: Place, p: Place, c: Place)
     requires { length points.old ≡ 18 }
     ensures { Row (bend_at (point_of a) (point_of p) (point_of c)) 9 points.new }
 {
-    let mut t = 0u32;
-    while t < 9 {
+    for t in 0..9 {
         put(points, t as usize, at(a, p, c, t));
-        t += 1;
     }
 }
 
@@ -130,25 +118,22 @@ fn is_bend(route: &[u32], k: u32) -> bool
     ensures { Tells (OnBend route.now k) result }
 {
     let n = route[2] as usize;
-    if k as usize + 3 >= 2 * n {
-        return false;
-    }
-    k % 2 == 1
+    k as usize + 3 < 2 * n && k % 2 == 1
 }
 
-// The points of piece k of a route record, where it is a bend.
-pub fn bent(blocks: &[u16], runs: &[u16], route: &[u32], k: u32, points: &mut [f64]) -> Shown
+// Whether piece k of a route record is a bend; its nine points, and zeros where it is none.
+pub fn bent(blocks: &[u16], runs: &[u16], route: &[u32], k: u32, points: &mut [f64]) -> bool
     requires { (Drawable (stored blocks.now runs.now) route.now) × (length points.old ≡ 18) }
     ensures { Bent (piece_at (stored blocks.now runs.now) route.now k) result points.new }
 {
     if !is_bend(route, k) {
         put_none(points);
-        return Shown::Nothing;
+        return false;
     }
     let i = k as usize / 2;
     let a = mark_place(blocks, runs, route, i);
     let p = mark_place(blocks, runs, route, i + 1);
     let c = mark_place(blocks, runs, route, i + 2);
     put_curve(points, a, p, c);
-    Shown::Nine
+    true
 }
