@@ -1,12 +1,11 @@
 -- The lines of a run, collected mark by mark.
-use mathlib.Core.Path.{◌≡◌, refl, sym, ap, ◌∙◌, subst}
+use mathlib.Core.Path.{◌≡◌, refl, sym, ap, ◌∙◌}
 use mathlib.Core.Bool.{Bool, true, false}
 use mathlib.Core.List.{List}
 use Prim.Native.Nat.{ℕ, zero, suc, ◌+◌, ◌≤◌}
 use native.Mathlib.Numerals.{add-one}
 use native.Mathlib.Omega.{arith}
 use lib.ListN.{length, take}
-use Rattle.geometry.specs.Words.{Point}
 use Rattle.tables.specs.Tables.{Records, is_corner, place_of, first_end, second_end}
 use Rattle.lines.specs.Lines.{insert, coordinate, corner_lines, lines}
 use Rattle.lines.specs.inner.Lined.{Rising, none, Lined, Collected}
@@ -76,6 +75,3 @@ pub collected : (R : Records) (m : ℕ) (e : Bool) (list : List ℕ) (n : ℕ) (
 unfolding lines
 collected R m e list n new r f l =
     record { sized = l.sized ∙ f.sized; count = omega (arith, l.count, f.few); is = l.is ∙ ap (insert (coordinate e (place_of R (second_end m)))) f.is }
-
-pub lined_at : (e : Bool) (x : ℕ) (p q : Point) (old : List ℕ) (n : ℕ) (new : List ℕ) (r : ℕ) → x ≡ coordinate e p → p ≡ q → Lined old n x new r → Lined old n (coordinate e q) new r
-lined_at e x p q old n new r a b l = subst (λ (y : ℕ). Lined old n y new r) (a ∙ ap (coordinate e) b) l

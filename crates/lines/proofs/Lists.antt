@@ -1,11 +1,18 @@
 -- Increasing lists of lines.
 use mathlib.Core.Path.{◌≡◌, refl, sym, ap, ◌∙◌, subst}
+use mathlib.Core.Bool.{cond}
 use mathlib.Core.List.{List, [], ◌∷◌, ◌++◌, append_assoc}
 use Prim.Native.Nat.{ℕ, suc, ◌+◌, ◌≤◌, ◌<◌, min, max}
 use native.Mathlib.Numerals.{add-one}
 use native.Mathlib.Omega.{arith}
 use native.Mathlib.Decide.{dec_lt}
 use lib.ListN.{length, take, drop, set, length-set, length-take, take-append-drop, drop_of_length-le}
+use lib.Dec.{eqb}
+use Rattle.std.specs.Option.{unwrap_or}
+use Rattle.std.specs.Prelude.{Option, position}
+use Rattle.std.specs.List.{position_or_len}
+use Rattle.std.proofs.lemmas.List.Recursion.{is_position_or_len}
+use Rattle.std.proofs.lemmas.List.Sums.{prefix_len-le-length}
 use lib.Seq.{drop-cons, take-suc-set, drop-set-lt, take-set-lt, get_or-take, take-take}
 use borrow.Author.Tests.{eq-eqb, ne_eqb, lt-ltb, le-ltb}
 use Rattle.geometry.specs.Words.{word}
@@ -102,9 +109,6 @@ pub record Inserting (old : List ℕ) (n x : ℕ) (list : List ℕ) (c j : ℕ) 
   pub made : insert x (take n old) ≡ take j list ++ insert c (drop j (take n list))
   pub rising : Rising 0 (drop j (take n list))
 
-pub inserting_none : (old : List ℕ) (n x : ℕ) → Rising 0 (take n old) → Inserting old n x old x 0
-inserting_none old n x r = record { sized = refl; within = omega arith; made = refl; rising = r }
-
 module _ (old : List ℕ) (n x : ℕ) (list : List ℕ) (c j : ℕ) (small : n < length old) (i : Inserting old n x list c j) where
   abbrev rest : List ℕ
   rest = drop (j + 1) (take n list)
@@ -168,20 +172,23 @@ pub index_past : (x y : ℕ) (ys : List ℕ) → (y ≡ x → ⊥) → index_of 
 unfolding index_of
 index_past x y ys n = rw (ne_eqb x y (λ (e : x ≡ y). n (sym e)))
 
--- k are passed
-pub record Seeking (l : List ℕ) (n x k : ℕ) : Type 0 where
-  pub sum : index_of x (take n l) ≡ k + index_of x (drop k (take n l))
+-- the position of x, by the library's search
+pub index_is : (l : List ℕ) (n x r : ℕ) {o : Option ℕ} → n ≤ length l → r ≡ unwrap_or o n → o ≡ position (λ (y : ℕ). eqb x y) (take n l) → r ≡ index_of x (take n l)
+unfolding index_of
+index_is l n x r h e f = e ∙ ap (λ (o : Option ℕ). unwrap_or o n) f ∙ go (dec_lt P n)
+  where
+    P : ℕ
+    P = position_or_len (λ (y : ℕ). eqb x y) (take n l)
 
-module _ (l : List ℕ) (n x : ℕ) (small : n ≤ length l) where
-  pub seeking_found : (k : ℕ) → k < n → Seeking l n x k → word l k ≡ x → k ≡ index_of x (take n l)
-  seeking_found k h s e = let q : index_of x (drop k (take n l)) ≡ 0 = ap (index_of x) (drop_at l n k h small) ∙ index_here x (word l k) (drop (k + 1) (take n l)) e in omega (arith, s.sum)
+    len : length (take n l) ≡ n
+    len = simp length-take (omega arith)
 
-  pub seeking_next : (k : ℕ) → k < n → Seeking l n x k → (word l k ≡ x → ⊥) → Seeking l n x (k + 1)
-  seeking_next k h s e =
-      let q : index_of x (drop k (take n l)) ≡ suc (index_of x (drop (k + 1) (take n l))) =
-      ap (index_of x) (drop_at l n k h small) ∙ index_past x (word l k) (drop (k + 1) (take n l)) e in
-      record { sum = omega (arith, s.sum) }
+    same : index_of x (take n l) ≡ P
+    same = is_position_or_len (index_of x) (λ (y : ℕ). eqb x y) refl (λ y ys. ap (cond (eqb x y) 0) (omega arith)) (take n l)
 
-  pub seeking_none : (k : ℕ) → n ≤ k → Seeking l n x k → k ≡ index_of x (take n l)
-  unfolding index_of
-  seeking_none k h s = let q : index_of x (drop k (take n l)) ≡ 0 = ap (index_of x) (drop_all l n k h) in omega (arith, s.sum)
+    most : P ≤ length (take n l)
+    most = prefix_len-le-length _ (take n l)
+
+    go : Dec (P < n) → unwrap_or (position (λ (y : ℕ). eqb x y) (take n l)) n ≡ index_of x (take n l)
+    go (yes b) = rw (len, lt-ltb P n b, same) refl
+    go (no b) = rw (len, le-ltb P n (omega arith), same) (omega (arith, most, len))

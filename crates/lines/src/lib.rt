@@ -10,33 +10,19 @@ ghost use Rattle.lines.specs.inner.Lined.{Rising, Lined, Collected};
 use geometry::Place;
 use tables::{is_corner, place_of};
 
-fn lower16(a: u16, b: u16) -> u16
-    ensures { result ≡ min a b }
-{
-    if a < b { a } else { b }
-}
-
-fn higher16(a: u16, b: u16) -> u16
-    ensures { result ≡ max a b }
-{
-    if a < b { b } else { a }
-}
-
 // Puts x among the first n of an increasing list, once; answers how many there are then.
 fn add_line(list: &mut [u16], n: usize, x: u16) -> usize
     requires { (n < length list.old) × (Rising 0 (take n list.old)) }
     ensures { Lined list.old n x list.new result }
 {
     let mut carried = x;
-    let mut j = 0;
-    while j < n {
+    for j in 0..n {
         let y = list[j];
         if carried == y {
             return n;
         }
-        list[j] = lower16(carried, y);
-        carried = higher16(carried, y);
-        j += 1;
+        list[j] = carried.min(y);
+        carried = carried.max(y);
     }
     list[n] = carried;
     n + 1
@@ -64,12 +50,10 @@ pub fn lines_of(blocks: &[u16], runs: &[u16], m: usize, east: bool, list: &mut [
     ensures { Collected (lines (stored blocks.now runs.now) m east) list.new result }
 {
     let mut n = 0;
-    let mut i = 0;
-    while i < 192 {
+    for i in 0..192 {
         if is_corner(blocks, i) {
             n = add_mark(blocks, runs, i, east, list, n);
         }
-        i += 1;
     }
     n = add_mark(blocks, runs, 192 + 2 * m, east, list, n);
     add_mark(blocks, runs, 193 + 2 * m, east, list, n)
@@ -80,12 +64,5 @@ pub fn index_of(list: &[u16], n: usize, x: u16) -> usize
     requires { n ≤ length list.now }
     ensures { result ≡ index_of x (take n list.now) }
 {
-    let mut k = 0;
-    while k < n {
-        if list[k] == x {
-            return k;
-        }
-        k += 1;
-    }
-    k
+    list[..n].iter().position(|y| x == *y).unwrap_or(n)
 }

@@ -1,9 +1,6 @@
-use Rattle.lines.proofs.Lists.{inserting_none, inserting_had, inserting_next, inserting_last}
+use Rattle.lines.proofs.Lists.{inserting_had, inserting_next, inserting_last}
 use borrow.Author.Rules.{rules}
 use Rattle.lines.proofs.add_line.Goals as goal
-
-pub loop-j-init : goal.loop-j-init
-loop-j-init c = (search rules, search inserting_none)
 
 pub returns-then-carried-y : goal.returns-then-carried-y
 returns-then-carried-y c = search inserting_had

@@ -1,16 +1,12 @@
-use Rattle.lines.proofs.Lists.{seeking_found, seeking_next, seeking_none}
-use native.Mathlib.Omega.{arith}
-use borrow.Author.Rules.{rules}
+use Rattle.std.proofs.Common.{rules, tests, ◌≡◌, ℕ, take, nat_eq}
+use Rattle.std.specs.Prelude.{position}
+use Rattle.std.proofs.lemmas.Iterator.Search.{position_from_yields_List}
+use Rattle.std.proofs.lemmas.Iterator.{YieldsList-from_slice}
+use Rattle.lines.proofs.Lists.{index_is}
 use Rattle.lines.proofs.index_of.Goals as goal
 
-pub loop-k-init : goal.loop-k-init
-loop-k-init c = (search rules, search rules, record { sum = omega arith })
-
-pub returns-then-list-k : goal.returns-then-list-k
-returns-then-list-k c = seeking_found _ _ _ c.loop-k.invariant.1 _ c.loop-k-test.true c.loop-k.invariant.2 c.if-list-k.true
-
-pub loop-k-preserved : goal.loop-k-preserved
-loop-k-preserved c = (search rules, search rules, search seeking_next)
-
 pub returns : goal.returns
-returns c = search seeking_none
+returns c =
+    let e : c.position.result ≡ position (λ (y : ℕ). nat_eq c.args.x y) (take c.args.n c.args.list.now) =
+    position_from_yields_List (λ (y : ℕ). nat_eq c.args.x y) _ _ c.position.result c.position.ensures.ran (YieldsList-from_slice _ c.iter.ensures.rest) (λ x b q k. search (rules, tests)) in
+    index_is _ _ _ _ c.requires c.unwrap_or.ensures e
