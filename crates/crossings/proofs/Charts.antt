@@ -1,6 +1,7 @@
 -- The table of steps, from the tests of straights.
 use mathlib.Core.Path.{◌≡◌, refl, sym, ◌∙◌}
 use mathlib.Core.Bool.{Bool, true, false}
+use mir.Val.{bool_byte}
 use mathlib.Core.List.{List}
 use Prim.Native.Nat.{ℕ, ◌+◌, ◌*◌, ◌/◌, ◌%◌, ◌≤◌, ◌<◌}
 use native.Mathlib.Omega.{arith}
@@ -8,6 +9,7 @@ use native.Mathlib.Decide.{ℕ_discrete}
 use lib.ListN.{length, take, set, length-set, length-take}
 use lib.Seq.{get_or-take, get_or-set_same, get_or-set_other}
 use Rattle.lists.specs.inner.Tells.{Tells}
+use Rattle.lists.proofs.Telling.{tells_as}
 use Rattle.geometry.specs.Words.{Point, point, word}
 use Rattle.geometry.specs.inner.Bounds.{InRange}
 use Rattle.visibility.specs.Visibility.{Clear}
@@ -15,11 +17,13 @@ use Rattle.visibility.proofs.Straights.{clear_sym}
 use Rattle.crossings.specs.Grid.{Grid, Crossing, place, Beside, west, south, north, east, Stepping}
 use Rattle.crossings.specs.inner.Charts.{ruled, Ruled, spot, Told, Charted}
 
-told_yes : {P : Type 0} → P → Told P 1
-told_yes p = record { small = omega arith; yes'' = λ e. p; no'' = λ (e : ◌≡◌ {A = ℕ} 1 0). absurd (omega arith) }
-
-told_no : {P : Type 0} → (P → ⊥) → Told P 0
-told_no n = record { small = omega arith; yes'' = λ (e : ◌≡◌ {A = ℕ} 0 1). absurd (omega arith); no'' = λ e. n }
+-- a test's answer as a bit
+pub told_bit : {P : Type 0} {t : Bool} → Tells P t → Told P (bool_byte t)
+told_bit {P} {t} h = go t h
+  where
+    go : (t : Bool) → Tells P t → Told P (bool_byte t)
+    go true h = record { small = omega arith; yes'' = λ e. h.yes' refl; no'' = λ (e : ◌≡◌ {A = ℕ} 1 0). absurd (omega arith) }
+    go false h = record { small = omega arith; yes'' = λ (e : ◌≡◌ {A = ℕ} 0 1). absurd (omega arith); no'' = λ e. h.no' refl }
 
 -- what is true has the bit 1
 pub bit : {P : Type 0} (b : ℕ) → Told P b → P → b ≡ 1
@@ -65,60 +69,27 @@ module _ (xs : List ℕ) (nx : ℕ) (ys : List ℕ) (ny : ℕ) (r : Ruled xs nx 
     abbrev S : ℕ → Type 0
     S u = Stepping blocks g v u
 
-    up_beside : Beside v (v + 1) → v / 66 ≡ (v + 1) / 66
-    up_beside (west e) = absurd (omega arith)
-    up_beside (south e f) = absurd (omega arith)
-    up_beside (north e f) = f
-    up_beside (east e) = absurd (omega arith)
-
-    pub north_off : nx ≤ v / 66 → Told (S (v + 1)) 0
-    north_off h = told_no (λ s. omega (arith, crossing_east v s.from))
-
-    pub north_top : ny ≤ v % 66 + 1 → Told (S (v + 1)) 0
-    north_top h = told_no (λ s. omega (arith, crossing_north (v + 1) s.to, up_beside s.beside))
-
-    pub east_off : nx ≤ v / 66 + 1 → Told (S (v + 66)) 0
-    east_off h = told_no (λ s. omega (arith, crossing_east (v + 66) s.to))
-
-    pub east_top : ny ≤ v % 66 → Told (S (v + 66)) 0
-    east_top h = told_no (λ s. omega (arith, crossing_north v s.from))
-
     module _ (p q : Point) (t : Bool) (u : ℕ) (a : v / 66 < nx) (b : v % 66 < ny) (c : u / 66 < nx) (d : u % 66 < ny) (h : Beside v u)
         (pe : p ≡ spot xs ys v) (qe : q ≡ spot xs ys u) (k : Tells (Clear blocks p q) t) where
-      step_yes : t ≡ true → Told (S u) 1
-      step_yes e =
-          told_yes
-          (record {
-            from = crossing v a b;
-            to = crossing u c d;
-            beside = h;
-            clear = rw (place_is v a b ∙ sym pe, place_is u c d ∙ sym qe) (k.yes' e);
-          })
-
-      step_no : t ≡ false → Told (S u) 0
-      step_no e = told_no (λ s. k.no' e (rw (place_is v a b ∙ sym pe, place_is u c d ∙ sym qe) at s.clear))
+      step_tells : Tells (S u) t
+      step_tells =
+          tells_as
+          (λ w. record { from = crossing v a b; to = crossing u c d; beside = h; clear = rw (place_is v a b ∙ sym pe, place_is u c d ∙ sym qe) w })
+          (λ s. rw (place_is v a b ∙ sym pe, place_is u c d ∙ sym qe) at s.clear)
+          k
 
     up_row : v % 66 + 1 < ny → (v / 66 ≡ (v + 1) / 66) × ((v + 1) % 66 < ny)
     up_row h = let k = r.ys_few in (omega arith, omega arith)
 
     module _ (p q : Point) (t : Bool) (a : v / 66 < nx) (b : v % 66 + 1 < ny) (pe : p ≡ spot xs ys v) (qe : q ≡ spot xs ys (v + 1)) (k : Tells (Clear blocks p q) t) where
-      pub north_yes : t ≡ true → Told (S (v + 1)) 1
-      north_yes e = let f = up_row b in step_yes p q t (v + 1) a (omega arith) (omega (arith, f.0)) f.1 (north refl f.0) pe qe k e
-
-      pub north_no : t ≡ false → Told (S (v + 1)) 0
-      north_no e = let f = up_row b in step_no p q t (v + 1) a (omega arith) (omega (arith, f.0)) f.1 (north refl f.0) pe qe k e
+      pub north_tells : Tells (S (v + 1)) t
+      north_tells = let f = up_row b in step_tells p q t (v + 1) a (omega arith) (omega (arith, f.0)) f.1 (north refl f.0) pe qe k
 
     module _ (p q : Point) (t : Bool) (a : v / 66 + 1 < nx) (b : v % 66 < ny) (pe : p ≡ spot xs ys v) (qe : q ≡ spot xs ys (v + 66)) (k : Tells (Clear blocks p q) t) where
-      pub east_yes : t ≡ true → Told (S (v + 66)) 1
-      east_yes e = step_yes p q t (v + 66) (omega arith) b (omega arith) (omega arith) (east refl) pe qe k e
-
-      pub east_no : t ≡ false → Told (S (v + 66)) 0
-      east_no e = step_no p q t (v + 66) (omega arith) b (omega arith) (omega arith) (east refl) pe qe k e
+      pub east_tells : Tells (S (v + 66)) t
+      east_tells = step_tells p q t (v + 66) (omega arith) b (omega arith) (omega arith) (east refl) pe qe k
 
 module _ (blocks : List ℕ) (g : Grid) where
-  pub charted_none : (steps : List ℕ) → length steps ≡ 4356 → Charted blocks g steps 0
-  charted_none steps s = record { sized = s; north = λ v l. absurd (omega arith); east = λ v l. absurd (omega arith) }
-
   pub charted_next : (steps : List ℕ) (n a b : ℕ) → n < 4356 → Charted blocks g steps n → Told (Stepping blocks g n (n + 1)) a → Told (Stepping blocks g n (n + 66)) b
       → Charted blocks g (set steps n (a + 2 * b)) (n + 1)
   charted_next steps n a b l c p q =

@@ -8,6 +8,9 @@ use native.Mathlib.Omega.{arith}
 use lib.Dec.{eqb}
 use Rattle.crossings.specs.Grid.{Grid, Beside, west, south, north, east, Stepping, axis_of}
 use Rattle.crossings.specs.inner.Charts.{ruled, Ruled, Charted, west_of, south_of, north_of, east_of, step_of, axis_by}
+use Rattle.crossings.specs.declared.Direction.{Direction}
+use Rattle.crossings.specs.declared.Direction.TheVariants.{West, South, North, East}
+use Rattle.crossings.specs.inner.Directions.{code}
 use Rattle.crossings.proofs.Charts.{in_grid, step_back}
 use Rattle.crossings.proofs.Stepping.{west_step, west_is, west_at, west_axis, south_step, south_is, south_at, north_step, north_is, north_at, east_step, east_is, east_at, east_axis, same_axis, row_of}
 
@@ -23,6 +26,12 @@ way (suc zero) l = to_south
 way (suc (suc zero)) l = to_north
 way (suc (suc (suc zero))) l = to_east
 way (suc (suc (suc (suc d)))) l = absurd (omega arith)
+
+pub code_small : (d : Direction) → code d ≤ 3
+code_small West = omega arith
+code_small South = omega arith
+code_small North = omega arith
+code_small East = omega arith
 
 -- where a direction leads somewhere, it is there
 pub step_at : (steps : List ℕ) (d v : ℕ) → d ≤ 3 → step_of steps d v < 4356

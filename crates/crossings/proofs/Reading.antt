@@ -1,5 +1,5 @@
 -- What the small functions read off the lists of lines and the table of steps.
-use mathlib.Core.Path.{◌≡◌, ◌∙◌}
+use mathlib.Core.Path.{◌≡◌}
 use mathlib.Core.List.{List, [], ◌∷◌}
 use Prim.Native.Nat.{ℕ, ◌+◌, ◌*◌, ◌-◌, ◌/◌, ◌%◌, ◌≤◌, ◌<◌}
 use native.Mathlib.Omega.{arith}
@@ -11,7 +11,7 @@ use Rattle.lengths.specs.Length.{gap}
 use Rattle.lines.specs.Lines.{index_of}
 use Rattle.lines.proofs.Lists.{index_here, index_past}
 use Rattle.crossings.specs.Grid.{axis_of, crossing_at}
-use Rattle.crossings.specs.inner.Charts.{ruled, spot, span, west_of, south_of, north_of, east_of, step_of}
+use Rattle.crossings.specs.inner.Charts.{ruled, spot, span, west_of, south_of, north_of, east_of}
 
 module _ (steps : List ℕ) (v : ℕ) where
   pub west_edge : v < 66 → 4356 ≡ west_of steps v
@@ -76,24 +76,6 @@ module _ (steps : List ℕ) (v : ℕ) where
 
   pub east_found : east_of steps v < 4356 → word steps v / 2 ≡ 1
   east_found h = elim (ℕ_discrete (word steps v / 2) 1) [ yes b ↦ b | no b ↦ absurd (omega (arith, east_shut b)) ]
-
--- the same by direction
-module _ (steps : List ℕ) (d v r : ℕ) where
-  pub step_west : d ≡ 0 → r ≡ west_of steps v → r ≡ step_of steps d v
-  unfolding step_of
-  step_west a e = e ∙ rw (eq-eqb d 0 a)
-
-  pub step_south : (d ≡ 0 → ⊥) → d ≡ 1 → r ≡ south_of steps v → r ≡ step_of steps d v
-  unfolding step_of
-  step_south a b e = e ∙ rw (ne_eqb d 0 a, eq-eqb d 1 b)
-
-  pub step_north : (d ≡ 0 → ⊥) → (d ≡ 1 → ⊥) → d ≡ 2 → r ≡ north_of steps v → r ≡ step_of steps d v
-  unfolding step_of
-  step_north a b c e = e ∙ rw (ne_eqb d 0 a, ne_eqb d 1 b, eq-eqb d 2 c)
-
-  pub step_east : (d ≡ 0 → ⊥) → (d ≡ 1 → ⊥) → (d ≡ 2 → ⊥) → r ≡ east_of steps v → r ≡ step_of steps d v
-  unfolding step_of
-  step_east a b c e = e ∙ rw (ne_eqb d 0 a, ne_eqb d 1 b, ne_eqb d 2 c)
 
 module _ (xs ys : List ℕ) (v u : ℕ) where
   pub span_is : (p q : Point) (x y : ℕ) → p ≡ spot xs ys v → q ≡ spot xs ys u → x ≡ gap p.east q.east → y ≡ gap p.north q.north → x + y ≡ span xs ys v u

@@ -5,8 +5,10 @@ ghost use Rattle.std.specs.Prelude.{◌≡◌, ◌+◌, ◌<◌, ◌≤◌, leng
 ghost use Rattle.geometry.specs.Words.{point_of};
 ghost use Rattle.geometry.specs.inner.Bounds.{Bounded};
 ghost use Rattle.seams.specs.inner.Near.{Near};
+ghost use Rattle.lists.specs.inner.Tells.{Tells};
 ghost use Rattle.crossings.specs.Grid.{Stepping, crossing_at};
-ghost use Rattle.crossings.specs.inner.Charts.{ruled, Ruled, spot, span, Told, Charted, west_of, south_of, north_of, east_of, step_of};
+ghost use Rattle.crossings.specs.inner.Charts.{ruled, Ruled, spot, span, Charted, west_of, south_of, north_of, east_of, step_of, axis_by};
+ghost use Rattle.crossings.specs.inner.Directions.{code, axis_code, Target};
 
 use geometry::Place;
 use lengths::apart;
@@ -14,7 +16,36 @@ use lines::index_of;
 use neighbours::mark_near;
 use visibility::is_clear;
 
+// The axis of a step.
+#[derive(Clone, Copy, Debug, PartialEq, Eq)]
+pub enum Axis {
+    NorthSouth,
+    EastWest,
+}
+
+// The direction of a step, in the order of the crossings that it leads to.
+#[derive(Clone, Copy, Debug, PartialEq, Eq)]
+pub enum Direction {
+    West,
+    South,
+    North,
+    East,
+}
+
+impl Direction {
+    #[tactic(auto, unfolding(crate::specs::inner::Charts::axis_by))]
+    pub fn axis(self) -> Axis
+        ensures { axis_code result ≡ axis_by (code self) }
+    {
+        match self {
+            Direction::West | Direction::East => Axis::EastWest,
+            Direction::South | Direction::North => Axis::NorthSouth,
+        }
+    }
+}
+
 // The place of crossing v.
+#[tactic(auto, unfolding(crate::specs::inner::Charts::spot))]
 pub fn spot(xs: &[u16], ys: &[u16], v: usize) -> Place
     requires { (length xs.now ≡ 194) × (length ys.now ≡ 194) × (v < 4356) }
     ensures { point_of result ≡ spot xs.now ys.now v }
@@ -33,8 +64,8 @@ pub fn crossing_at(xs: &[u16], nx: usize, ys: &[u16], ny: usize, p: Place) -> us
     66 * index_of(xs, nx, p.east) + index_of(ys, ny, p.north)
 }
 
-// 1 where the step north from v is clear, else 0.
-fn north_bit(
+// Whether the step north from v is clear.
+fn north_clear(
     blocks: &[u16],
     near: &[u8],
     xs: &[u16],
@@ -42,24 +73,18 @@ fn north_bit(
     ys: &[u16],
     ny: usize,
     v: usize,
-) -> u8
+) -> bool
     requires { (Bounded blocks.now) × (Near blocks.now near.now) × (Ruled xs.now nx ys.now ny) × (v < 4356) }
-    ensures { Told (Stepping blocks.now (ruled xs.now nx ys.now ny) v (v + 1)) result }
+    ensures { Tells (Stepping blocks.now (ruled xs.now nx ys.now ny) v (v + 1)) result }
 {
-    if nx <= v / 66 {
-        return 0;
+    if nx <= v / 66 || ny <= v % 66 + 1 {
+        return false;
     }
-    if ny <= v % 66 + 1 {
-        return 0;
-    }
-    if is_clear(blocks, near, spot(xs, ys, v), spot(xs, ys, v + 1)) {
-        return 1;
-    }
-    0
+    is_clear(blocks, near, spot(xs, ys, v), spot(xs, ys, v + 1))
 }
 
-// 1 where the step east from v is clear, else 0.
-fn east_bit(
+// Whether the step east from v is clear.
+fn east_clear(
     blocks: &[u16],
     near: &[u8],
     xs: &[u16],
@@ -67,20 +92,14 @@ fn east_bit(
     ys: &[u16],
     ny: usize,
     v: usize,
-) -> u8
+) -> bool
     requires { (Bounded blocks.now) × (Near blocks.now near.now) × (Ruled xs.now nx ys.now ny) × (v < 4356) }
-    ensures { Told (Stepping blocks.now (ruled xs.now nx ys.now ny) v (v + 66)) result }
+    ensures { Tells (Stepping blocks.now (ruled xs.now nx ys.now ny) v (v + 66)) result }
 {
-    if nx <= v / 66 + 1 {
-        return 0;
+    if nx <= v / 66 + 1 || ny <= v % 66 {
+        return false;
     }
-    if ny <= v % 66 {
-        return 0;
-    }
-    if is_clear(blocks, near, spot(xs, ys, v), spot(xs, ys, v + 66)) {
-        return 1;
-    }
-    0
+    is_clear(blocks, near, spot(xs, ys, v), spot(xs, ys, v + 66))
 }
 
 // Tests each step once: 1 for north and 2 for east at the crossing that it leaves.
@@ -90,77 +109,70 @@ pub fn chart(blocks: &[u16], xs: &[u16], nx: usize, ys: &[u16], ny: usize, steps
 {
     let mut near = [0u8; 24];
     mark_near(blocks, &mut near);
-    let mut v = 0;
-    while v < 4356 {
-        let north = north_bit(blocks, &near, xs, nx, ys, ny, v);
-        let east = east_bit(blocks, &near, xs, nx, ys, ny, v);
-        steps[v] = north + 2 * east;
-        v += 1;
+    for v in 0..4356 {
+        let north = north_clear(blocks, &near, xs, nx, ys, ny, v);
+        let east = east_clear(blocks, &near, xs, nx, ys, ny, v);
+        steps[v] = u8::from(north) + 2 * u8::from(east);
     }
 }
 
-// The crossing west of v where the step there is clear, else 4,356; the next three are alike.
-pub fn west(steps: &[u8], v: usize) -> usize
+// The crossing west of v where the step there is clear; the next three are alike.
+#[tactic(auto, unfolding(crate::specs::inner::Charts::west_of))]
+pub fn west(steps: &[u8], v: usize) -> Option<usize>
     requires { (length steps.now ≡ 4356) × (v < 4356) }
-    ensures { result ≡ west_of steps.now v }
+    ensures { Target result (west_of steps.now v) }
 {
-    if v < 66 {
-        return 4356;
+    if 66 <= v && steps[v - 66] / 2 == 1 {
+        return Some(v - 66);
     }
-    if steps[v - 66] / 2 == 1 {
-        return v - 66;
-    }
-    4356
+    None
 }
 
-pub fn south(steps: &[u8], v: usize) -> usize
+#[tactic(auto, unfolding(crate::specs::inner::Charts::south_of))]
+pub fn south(steps: &[u8], v: usize) -> Option<usize>
     requires { (length steps.now ≡ 4356) × (v < 4356) }
-    ensures { result ≡ south_of steps.now v }
+    ensures { Target result (south_of steps.now v) }
 {
-    if v < 1 {
-        return 4356;
+    if 1 <= v && steps[v - 1] % 2 == 1 {
+        return Some(v - 1);
     }
-    if steps[v - 1] % 2 == 1 {
-        return v - 1;
-    }
-    4356
+    None
 }
 
-pub fn north(steps: &[u8], v: usize) -> usize
+#[tactic(auto, unfolding(crate::specs::inner::Charts::north_of))]
+pub fn north(steps: &[u8], v: usize) -> Option<usize>
     requires { (length steps.now ≡ 4356) × (v < 4356) }
-    ensures { result ≡ north_of steps.now v }
+    ensures { Target result (north_of steps.now v) }
 {
-    if steps[v] % 2 == 1 {
-        return v + 1;
+    if v < 4355 && steps[v] % 2 == 1 {
+        return Some(v + 1);
     }
-    4356
+    None
 }
 
-pub fn east(steps: &[u8], v: usize) -> usize
+#[tactic(auto, unfolding(crate::specs::inner::Charts::east_of))]
+pub fn east(steps: &[u8], v: usize) -> Option<usize>
     requires { (length steps.now ≡ 4356) × (v < 4356) }
-    ensures { result ≡ east_of steps.now v }
+    ensures { Target result (east_of steps.now v) }
 {
-    if steps[v] / 2 == 1 {
-        return v + 66;
+    if v < 4290 && steps[v] / 2 == 1 {
+        return Some(v + 66);
     }
-    4356
+    None
 }
 
-// The crossing that a clear step in a direction leads to, else 4,356: 0 west, 1 south, 2 north, 3 east.
-pub fn neighbour(steps: &[u8], d: usize, v: usize) -> usize
+// The crossing that a clear step in a direction leads to.
+#[tactic(auto, unfolding(crate::specs::inner::Charts::step_of))]
+pub fn neighbour(steps: &[u8], d: Direction, v: usize) -> Option<usize>
     requires { (length steps.now ≡ 4356) × (v < 4356) }
-    ensures { result ≡ step_of steps.now d v }
+    ensures { Target result (step_of steps.now (code d) v) }
 {
-    if d == 0 {
-        return west(steps, v);
+    match d {
+        Direction::West => west(steps, v),
+        Direction::South => south(steps, v),
+        Direction::North => north(steps, v),
+        Direction::East => east(steps, v),
     }
-    if d == 1 {
-        return south(steps, v);
-    }
-    if d == 2 {
-        return north(steps, v);
-    }
-    east(steps, v)
 }
 
 // How far two crossings are apart.

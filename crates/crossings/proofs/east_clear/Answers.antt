@@ -1,26 +1,13 @@
-use Rattle.crossings.proofs.Charts.{spot_in_range, east_off, east_top, east_yes, east_no}
+use Rattle.crossings.proofs.Charts.{spot_in_range, east_tells}
 use native.Mathlib.Omega.{arith}
-use Rattle.crossings.proofs.east_bit.Goals as goal
+use Rattle.crossings.proofs.east_clear.Goals as goal
 
-pub returns-then-nx-v : goal.returns-then-nx-v
-returns-then-nx-v c = search east_off
-
-pub returns-then-ny-v : goal.returns-then-ny-v
-returns-then-ny-v c = search east_top
-
-pub is_clear-requires : goal.is_clear-requires
-is_clear-requires c =
-    let few = c.requires.2.ys_few in
-    record {
-      blocks = (c.requires.0, c.requires.1);
-      ends = (
-        spot_in_range _ _ _ _ c.requires.2 _ _ (omega arith) (omega arith) c.spot.ensures,
-        spot_in_range _ _ _ _ c.requires.2 _ _ (omega arith) (omega arith) c.spot-2.ensures,
-      );
-    }
-
-pub returns-then-is_clear : goal.returns-then-is_clear
-returns-then-is_clear c = search east_yes
+pub is_clear-requires-clause-ends : goal.is_clear-requires-clause-ends
+is_clear-requires-clause-ends c =
+    let few = c.requires.2.ys_few in (
+      spot_in_range _ _ _ _ c.requires.2 _ _ (omega arith) (omega arith) c.spot.ensures,
+      spot_in_range _ _ _ _ c.requires.2 _ _ (omega arith) (omega arith) c.spot-2.ensures,
+    )
 
 pub returns : goal.returns
-returns c = search east_no
+returns c = search east_tells
