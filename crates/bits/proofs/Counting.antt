@@ -2,12 +2,12 @@
 use mathlib.Core.Path.{◌≡◌, refl, sym, ap, ◌∙◌}
 use Prim.Native.Nat.{ℕ, zero, suc, ◌+◌, ◌*◌, ◌-◌, ◌/◌, ◌%◌, ◌^◌, ◌<◌, max, min}
 use native.Mathlib.Nat.{pow-suc, min-le_left, min-le_right, div-div-eq-div-mul}
-use native.Mathlib.Decide.{ℕ_discrete, dec_lt}
+use native.Mathlib.Decide.{dec_lt}
 use native.Mathlib.Omega.{arith}
 use lib.Count.{count_trailing_zeros, under}
 use lib.Bits.{bit_or, or_step, bit_and, and_step, and_le_r, bit_xor, xor_step, differ}
 use lib.Pow.{pow-lt}
-use Rattle.bits.specs.inner.Bits.{bit, Lowest, WithoutLowest, With, Without, Packed}
+use Rattle.bits.specs.inner.Bits.{bit, Lowest, WithoutLowest, With, Without}
 
 -- the trailing zeros are zeros, and the digit after them is set
 under_low : (n t i : ℕ) → i < under (n % 2) t → ((j : ℕ) → j < t → bit j (n / 2) ≡ 0) → bit i n ≡ 0
@@ -196,14 +196,3 @@ bit_shift (suc b) c = ap (λ (x : ℕ). x % 2) (ap (λ (k : ℕ). c / k) (pow_su
   where
     pow_suc' : (k : ℕ) → 2 ^ suc k ≡ 2 * 2 ^ k
     pow_suc' k = omega (arith, pow-suc 2 k)
-
--- one bit more, or none
-pub packed_kept : (c n b : ℕ) → b ≡ 0 → Packed c n b c
-packed_kept c n b e = record { here = λ z. e; kept = λ m z. z }
-
-pub packed_with : (c n b r : ℕ) → With c n r → Packed c n b r
-packed_with c n b r w =
-    record {
-      here = λ z. absurd (omega (arith, w.here));
-      kept = λ m z. elim (ℕ_discrete m n) [ yes q ↦ absurd (omega (arith, w.here, ap (λ (k : ℕ). bit k r) q)) | no q ↦ sym (w.rest m q) ∙ z ];
-    }

@@ -9,7 +9,7 @@ pub fn lowest(c: u64) -> u32
     requires { 0 < c }
     ensures { Lowest c result }
 {
-    u64::trailing_zeros(c)
+    c.trailing_zeros()
 }
 
 // The word without its lowest set bit.
@@ -57,10 +57,7 @@ pub fn packed(c: u64, n: u32, b: u8) -> u64
     requires { n < 64 }
     ensures { Packed c n b result }
 {
-    if b == 0 {
-        return c;
-    }
-    with_bit(c, n)
+    if b == 0 { c } else { with_bit(c, n) }
 }
 
 // The bits of both words.

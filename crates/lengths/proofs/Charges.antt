@@ -1,11 +1,11 @@
 -- What a straight is charged: never less than its length, and its length where the figure is 0; by its square, without a root where that is enough.
 use mathlib.Core.Path.{◌≡◌, refl, sym, ◌∙◌}
-use mathlib.Core.Bool.{Bool, true, false}
-use Prim.Native.Nat.{ℕ, zero, suc, ◌*◌, ◌-◌, ◌<◌, ◌≤◌, max}
+use mathlib.Core.Bool.{true, false}
+use Prim.Native.Nat.{ℕ, zero, suc, ◌*◌, ◌<◌, ◌≤◌, max}
 use native.Mathlib.Omega.{arith}
 use native.Mathlib.Decide.{dec_lt}
-use lib.Dec.{ltb, eqb}
-use borrow.Author.Tests.{lt-ltb, le-ltb, ltb-true, ltb-false, eq-eqb, ne_eqb}
+use lib.Dec.{ltb}
+use borrow.Author.Tests.{lt-ltb, le-ltb}
 use Rattle.lengths.specs.Length.{root_up}
 use Rattle.lengths.specs.Charge.{charge}
 use Rattle.lengths.proofs.Roots.{root_is}
@@ -49,11 +49,8 @@ module _ (f n : ℕ) where
   unfolding charge
   charge_free l e h = rw (sym e ∙ h)
 
-  pub charge_figure : (l : ℕ) → l ≡ root_up n → (l ≡ 0 → ⊥) → l < f → f ≡ charge f (root_up n)
-  charge_figure l e h g = rw (← e) (omega (arith, charge_more f l (omega arith)))
-
-  pub charge_length : (l : ℕ) → l ≡ root_up n → (l ≡ 0 → ⊥) → f ≤ l → l ≡ charge f (root_up n)
-  charge_length l e h g = rw (← e) (omega (arith, charge_more f l (omega arith)))
+  pub charge_larger : (l m : ℕ) → l ≡ root_up n → (l ≡ 0 → ⊥) → m ≡ max l f → m ≡ charge f (root_up n)
+  charge_larger l m e h g = rw (← e) (omega (arith, charge_more f l (omega arith)))
 
   -- whether that is more than `most`
   pub dearer_free : (most : ℕ) → n ≡ 0 → false ≡ ltb most (charge f (root_up n))
@@ -69,18 +66,3 @@ module _ (f n : ℕ) where
       go : Dec (most * most < n) → ltb (most * most) n ≡ ltb most (charge f (root_up n))
       go (yes h) = lt-ltb (most * most) n h ∙ sym (lt-ltb most _ (omega (arith, root_beyond n most h, charge_least f (root_up n))))
       go (no h) = le-ltb (most * most) n (omega arith) ∙ sym (le-ltb most _ (charge_bound f (root_up n) most g (root_within n most (omega arith))))
-
--- whether a number x is just `cost`, by whether it is more than `cost`, and more than the number before
-module _ (x cost : ℕ) where
-  pub charge_beyond : (t : Bool) → t ≡ ltb cost x → t ≡ true → false ≡ eqb x cost
-  charge_beyond t e h = let l = ltb-true cost x (sym e ∙ h) in sym (ne_eqb x cost (λ q. omega arith))
-
-  pub charge_none : (t : Bool) → t ≡ ltb cost x → t ≡ false → cost ≡ 0 → true ≡ eqb x cost
-  charge_none t e h z = let l = ltb-false cost x (sym e ∙ h) in sym (eq-eqb x cost (omega arith))
-
-  pub charge_just : (t : Bool) → t ≡ ltb cost x → t ≡ false → (cost ≡ 0 → ⊥) → (r : Bool) → r ≡ ltb (cost - 1) x → r ≡ eqb x cost
-  charge_just t e h z r d = d ∙ go (dec_lt (cost - 1) x)
-    where
-      go : Dec (cost - 1 < x) → ltb (cost - 1) x ≡ eqb x cost
-      go (yes l) = let m = ltb-false cost x (sym e ∙ h) in lt-ltb (cost - 1) x l ∙ sym (eq-eqb x cost (omega arith))
-      go (no l) = le-ltb (cost - 1) x (omega arith) ∙ sym (ne_eqb x cost (λ q. omega arith))

@@ -1,12 +1,9 @@
 -- Squares and roots: the root of a number from that of its quarter, and the rounded-up root from the rounded-down one.
-use mathlib.Core.Path.{◌≡◌}
-use Prim.Native.Nat.{ℕ, ◌+◌, ◌*◌, ◌-◌, ◌/◌, ◌^◌, ◌≤◌, ◌<◌}
-use lib.IntN.{pos, ◌-ℤ◌, ◌*ℤ◌}
+use Prim.Native.Nat.{ℕ, ◌+◌, ◌*◌, ◌/◌, ◌^◌, ◌≤◌, ◌<◌}
 use native.Mathlib.Omega.{arith}
 use native.Mathlib.Nat.{mul-le-mul}
 use native.Mathlib.Decide.{dec_le, dec_lt}
-use Rattle.geometry.proofs.Signed.{⊖-eq, diff}
-use Rattle.lengths.specs.Length.{RootUp, gap}
+use Rattle.lengths.specs.Length.{RootUp}
 use Rattle.lengths.specs.inner.Roots.{Root}
 
 -- the order of squares
@@ -39,23 +36,3 @@ quarter_small n h k l = square_lt h (2 ^ 31) (omega (arith, k.below))
 
 pub quarter_square : (h : ℕ) → h < 2 ^ 31 → (2 * h + 1) * (2 * h + 1) < 2 ^ 64
 quarter_square h k = let i : 2 * h + 1 ≤ 4294967295 = omega arith in omega (arith, mul-le-mul i i)
-
--- the square of a signed difference
-gap_is : (a b d g : ℕ) → b ≡ a + d → g ≡ d → a * a + b * b ≡ g * g + 2 * (a * b)
-gap_is a b d g e f = rw (e, f) (omega arith)
-
-squares : (a b : ℕ) → a * a + b * b ≡ gap a b * gap a b + 2 * (a * b)
-squares a b = go (dec_le a b)
-  where
-    go : Dec (a ≤ b) → a * a + b * b ≡ gap a b * gap a b + 2 * (a * b)
-    go (yes l) = gap_is a b (b - a) (gap a b) (omega arith) (omega arith)
-    go (no l) = let h = gap_is b a (a - b) (gap a b) (omega arith) (omega arith) in omega arith
-
-signed_square : (a b g : ℕ) → a * a + b * b ≡ g * g + 2 * (a * b) → (pos a -ℤ pos b) *ℤ (pos a -ℤ pos b) ≡ pos (g * g)
-signed_square a b g h = simp diff (⊖-eq _ _ _ _ (omega arith))
-
-pub gap_square : (a b : ℕ) → (pos a -ℤ pos b) *ℤ (pos a -ℤ pos b) ≡ pos (gap a b * gap a b)
-gap_square a b = signed_square a b (gap a b) (squares a b)
-
-pub gap_square_small : (a b : ℕ) → a < 2 ^ 16 → b < 2 ^ 16 → gap a b * gap a b ≤ 4294836225
-gap_square_small a b h k = let i : gap a b ≤ 65535 = omega arith in omega (arith, mul-le-mul i i)

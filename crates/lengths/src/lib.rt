@@ -18,10 +18,7 @@ pub fn root(n: u64) -> u64
     }
     let r = 2 * root(n / 4);
     let s = r + 1;
-    if s * s <= n {
-        return s;
-    }
-    r
+    if s * s <= n { s } else { r }
 }
 
 // The smallest number whose square is at least n, by the root.
@@ -30,10 +27,7 @@ fn slow_root_up(n: u64) -> u64
     ensures { result ≡ root_up n }
 {
     let r = root(n);
-    if r * r < n {
-        return r + 1;
-    }
-    r
+    if r * r < n { r + 1 } else { r }
 }
 
 // A step from a guess towards the root of n.
@@ -51,9 +45,9 @@ fn guess(n: u32) -> u64
     if n < 4 {
         return 0;
     }
-    let k = u32::leading_zeros(n) / 2;
-    let start = ((n << k) / 131072) as u64 + (27500u64 >> k);
-    let whole = n as u64;
+    let k = n.leading_zeros() / 2;
+    let start = u64::from((n << k) / 131072) + (27500u64 >> k);
+    let whole = u64::from(n);
     nearer(whole, nearer(whole, start))
 }
 
@@ -82,10 +76,7 @@ pub fn apart(a: u16, b: u16) -> u64
     ensures value { result ≡ gap a b }
     ensures small { result ≤ 65535 }
 {
-    if a < b {
-        return (b - a) as u64;
-    }
-    (a - b) as u64
+    u64::from(a.abs_diff(b))
 }
 
 // The square of how far apart they are, with no branch.
@@ -93,8 +84,8 @@ fn square_apart(a: u16, b: u16) -> u64
     ensures value { result ≡ gap a b * gap a b }
     ensures small { result ≤ 4294836225 }
 {
-    let d = geometry::difference(a, b);
-    geometry::mul(d, d) as u64
+    let d = i64::from(a) - i64::from(b);
+    (d * d) as u64
 }
 
 // The squared length of a segment, not rounded.
@@ -111,13 +102,7 @@ pub fn charge(figure: u64, square: u64) -> u64
     ensures { result ≡ charge figure (root_up square) }
 {
     let length = root_up(square);
-    if length == 0 {
-        return 0;
-    }
-    if length < figure {
-        return figure;
-    }
-    length
+    if length == 0 { 0 } else { length.max(figure) }
 }
 
 // Whether that is more than a number. No root is taken.
@@ -125,13 +110,7 @@ pub fn dearer(figure: u64, square: u64, most: u64) -> bool
     requires { most ≤ 16777215 }
     ensures { result ≡ ltb most (charge figure (root_up square)) }
 {
-    if square == 0 {
-        return false;
-    }
-    if most < figure {
-        return true;
-    }
-    most * most < square
+    square != 0 && (most < figure || most * most < square)
 }
 
 // Whether that is just a number. No root is taken.
@@ -139,11 +118,5 @@ pub fn is_charge(figure: u64, square: u64, cost: u64) -> bool
     requires { cost ≤ 16777215 }
     ensures { result ≡ eqb (charge figure (root_up square)) cost }
 {
-    if dearer(figure, square, cost) {
-        return false;
-    }
-    if cost == 0 {
-        return true;
-    }
-    dearer(figure, square, cost - 1)
+    !dearer(figure, square, cost) && (cost == 0 || dearer(figure, square, cost - 1))
 }

@@ -5,43 +5,21 @@ use mathlib.Core.Bool.{Bool, true, false}
 use Prim.Native.Nat.{ℕ, ◌+◌, ◌*◌, ◌-◌, ◌/◌, ◌%◌, ◌<◌, ◌≤◌}
 use native.Mathlib.Omega.{arith}
 use native.Mathlib.Decide.{dec_lt}
-use lib.Dec.{ltb, eqb}
-use borrow.Author.Tests.{lt-ltb, le-ltb, le-leb, lt-leb}
+use borrow.Author.Tests.{lt-ltb, le-ltb, lt-leb}
 use Rattle.geometry.specs.Words.{word, place_at}
 use Rattle.geometry.specs.inner.Bounds.{InRange}
 use Rattle.tables.specs.Tables.{Records, stored, is_corner, is_end, present, place_of, pair_index, pair_byte}
 use Rattle.tables.specs.inner.Fit.{Fit}
-
-module _ (blocks : List ℕ) (i : ℕ) where
-  pub corner_past : 192 ≤ i → false ≡ is_corner blocks i
-  unfolding is_corner
-  corner_past h = rw (le-ltb i 192 h)
-
-  pub corner_word : i < 192 → ltb (i % 8) (word blocks (17 * (i / 8))) ≡ is_corner blocks i
-  unfolding is_corner
-  corner_word h = rw (lt-ltb i 192 h)
 
 module _ (runs : List ℕ) (i : ℕ) where
   pub end_before : i < 192 → false ≡ is_end runs i
   unfolding is_end
   end_before h = rw (lt-leb 192 i h)
 
-  pub end_past : 192 ≤ i → 240 ≤ i → false ≡ is_end runs i
-  unfolding is_end
-  end_past h l = rw (le-leb 192 i h, le-ltb i 240 l)
-
-  pub end_word : 192 ≤ i → i < 240 → eqb (word runs (5 * ((i - 192) / 2))) 1 ≡ is_end runs i
-  unfolding is_end
-  end_word h l = rw (le-leb 192 i h, lt-ltb i 240 l)
-
 module _ (blocks runs : List ℕ) (i : ℕ) where
   pub present_corner : (t : Bool) → t ≡ is_corner blocks i → t ≡ true → true ≡ present (stored blocks runs) i
   unfolding present
   present_corner t e h = rw (sym e ∙ h)
-
-  pub present_end : (t s : Bool) → t ≡ is_corner blocks i → t ≡ false → s ≡ is_end runs i → s ≡ present (stored blocks runs) i
-  unfolding present
-  present_end t s e h g = rw (sym e ∙ h) g
 
   pub corner_place : i < 192 → place_at blocks (17 * (i / 8) + 1 + 2 * (i % 8)) ≡ place_of (stored blocks runs) i
   unfolding place_of
