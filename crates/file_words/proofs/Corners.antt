@@ -1,15 +1,25 @@
 -- The words of a block's corners, read one by one, and whether they lie inside.
 use mathlib.Core.Path.{◌≡◌, refl, sym, ap, ◌∙◌}
 use mathlib.Core.List.{List, [], ◌∷◌, ◌++◌, append-nil}
-use mathlib.Core.Bool.{true, false}
+use mathlib.Core.Bool.{Bool, true, false}
 use Prim.Native.Nat.{ℕ, zero, suc, ◌+◌, ◌*◌, ◌-◌, ◌%◌, ◌<◌, ◌≤◌}
 use native.Mathlib.Omega.{arith}
 use native.Mathlib.Numerals.{add-one}
 use native.Mathlib.Decide.{dec_lt, ℕ_discrete}
+use lib.Dec.{leb, eqb}
+use lib.IntN.{ℤ}
+use mir.Syntax.{w8, w16}
+use mir.Val.{to_z, of_z}
+use Rattle.std.specs.Bool.{MatchBool}
+use Rattle.std.specs.List.{AllWithin, HoldsAt}
+use Rattle.std.proofs.Common.{length-append, length-drop}
+use Rattle.std.proofs.lemmas.List.{take-append-le, nil_from_length}
+use borrow.Author.Tests.{eqb-true}
+use Rattle.std.proofs.lemmas.Int.{of_z-to_z}
 use lib.ListN.{length, get_or, set, take, drop, length-set}
-use lib.Seq.{get_or-set_same, get_or-set_other, ext_get_or, get_or-take, length-take-le, take-suc-set, drop-cons, drop-length, append_snoc}
+use lib.Seq.{take_all, get_or-set_same, get_or-set_other, ext_get_or, get_or-take, length-take-le, take-suc-set, append_snoc}
 use borrow.Author.Tests.{lt-ltb, le-ltb, le-leb, lt-leb, eq-eqb, ne_eqb}
-use Rattle.lists.specs.Lists.{all}
+use Rattle.lists.proofs.Every.{every_yes, every_no}
 use Rattle.file_words.specs.Words.{byte, block_size, field, fields_from, stepped, step_words, corner_words, inside}
 use Rattle.file_words.proofs.Sizes.{block_full, block_short}
 
@@ -24,16 +34,16 @@ fields_at f at zero k h = absurd (omega arith)
 fields_at f at (suc n) zero h = let e : at + 2 * 0 ≡ at = omega arith in rw e
 fields_at f at (suc n) (suc k) h = let e : at + 2 + 2 * k ≡ at + 2 * suc k = omega arith in rw (← e) (fields_at f (at + 2) n k (omega arith))
 
--- the first i words are the fields from a position on
-pub record WordsTo (f : List ℕ) (at : ℕ) (words : List ℕ) (i : ℕ) : Type 0 where
-  pub sized : length words ≡ 510
+-- the first i of n words are the fields from a position on
+pub record WordsTo (f : List ℕ) (at n : ℕ) (words : List ℕ) (i : ℕ) : Type 0 where
+  pub sized : length words ≡ n
   pub past : (k : ℕ) → k < i → get_or words k 0 ≡ field f (at + 2 * k)
 
-pub words_none : (f : List ℕ) (at : ℕ) (words : List ℕ) → length words ≡ 510 → WordsTo f at words 0
-words_none f at words e = record { sized = e; past = λ k h. absurd (omega arith) }
+pub words_none : (f : List ℕ) (at n : ℕ) (words : List ℕ) → length words ≡ n → WordsTo f at n words 0
+words_none f at n words e = record { sized = e; past = λ k h. absurd (omega arith) }
 
-pub words_next : (f : List ℕ) (at : ℕ) (words : List ℕ) (i v : ℕ) → i < 510 → v ≡ field f (at + 2 * i) → WordsTo f at words i → WordsTo f at (set words i v) (i + 1)
-words_next f at words i v h e w =
+pub words_next : (f : List ℕ) (at n : ℕ) (words : List ℕ) (i v : ℕ) → i < n → v ≡ field f (at + 2 * i) → WordsTo f at n words i → WordsTo f at n (set words i v) (i + 1)
+words_next f at n words i v h e w =
     record {
       sized = length-set words i v ∙ w.sized;
       past = λ k l.
@@ -45,11 +55,10 @@ words_next f at words i v h e w =
           ];
     }
 
-pub words_all : (f : List ℕ) (at : ℕ) (words : List ℕ) (n i : ℕ) → n ≤ 510 → n ≤ i → WordsTo f at words i → take n words ≡ fields_from f at n
-words_all f at words n i h l w =
-    let s : length (take n words) ≡ n = length-take-le n words (omega (arith, w.sized)) in
-    ext_get_or 0 (take n words) (fields_from f at n) (s ∙ sym (fields_length f at n))
-    λ k b. let c : k < n = omega arith in get_or-take n words k 0 c ∙ (w.past k (omega arith) ∙ sym (fields_at f at n k c))
+pub words_all : (f : List ℕ) (at n : ℕ) (words : List ℕ) (i : ℕ) → n ≤ i → WordsTo f at n words i → words ≡ fields_from f at n
+words_all f at n words i l w =
+    ext_get_or 0 words (fields_from f at n) (w.sized ∙ sym (fields_length f at n))
+    λ k b. let c : k < n = omega (arith, w.sized) in w.past k (omega arith) ∙ sym (fields_at f at n k c)
 
 -- a step in 16 bits
 pub step_up : (a s : ℕ) → s < 128 → (a + s) % 65536 ≡ stepped a s
@@ -59,6 +68,20 @@ step_up a s h = rw (lt-ltb s 128 h)
 pub step_down : (a s : ℕ) → 128 ≤ s → (a + (65280 + s)) % 65536 ≡ stepped a s
 unfolding stepped
 step_down a s h = rw (le-ltb s 128 h)
+
+-- a byte in two's complement, widened to 16 bits
+widened_low : (s : ℕ) → s < 128 → of_z w16 (to_z w8 s) ≡ s
+widened_low s h = rw (lt-ltb s 128 h)
+
+widened_high : (s : ℕ) → 128 ≤ s → s < 256 → of_z w16 (to_z w8 s) ≡ 65280 + s
+widened_high s l h = let e : 65536 - suc (256 - suc s) ≡ 65280 + s = omega arith in rw (le-ltb s 128 l) e
+
+pub stepped_by : (a s r : ℕ) (y z : ℤ) → s < 256 → y ≡ to_z w8 s → z ≡ to_z w8 (of_z w8 y) → r ≡ (a + of_z w16 (to_z w16 (of_z w16 z))) % 65536 → r ≡ stepped a s
+stepped_by a s r y z h ey ez er =
+    er ∙ rw (ez, ey, of_z-to_z w8 s h) (elim (dec_lt s 128) [
+      | yes l ↦ rw (widened_low s l, of_z-to_z w16 s (omega arith)) (step_up a s l)
+      | no l ↦ rw (widened_high s (omega arith) h, of_z-to_z w16 (65280 + s) (omega arith)) (step_down a s (omega arith))
+    ])
 
 pub step_words_length : (f : List ℕ) (at n a b : ℕ) → length (step_words f at n a b) ≡ n
 unfolding step_words
@@ -75,21 +98,21 @@ step_words_none f at a b = refl
 
 -- the first i words stand, and the steps that are left give the others
 pub record StepsTo (f : List ℕ) (at n : ℕ) (whole words : List ℕ) (i : ℕ) : Type 0 where
-  pub sized : length words ≡ 510
+  pub sized : length words ≡ n
   pub low : 2 ≤ i
   pub high : i ≤ n
   pub rest : take i words ++ step_words f (at + (i - 2)) (n - i) (get_or words (i - 2) 0) (get_or words (i - 1) 0) ≡ whole
 
 module _ (f : List ℕ) (at n : ℕ) where
-  pub steps_none : (words : List ℕ) → length words ≡ 510 → 2 ≤ n
+  pub steps_none : (words : List ℕ) → length words ≡ n → 2 ≤ n
       → StepsTo f at n (take 2 words ++ step_words f at (n - 2) (get_or words 0 0) (get_or words 1 0)) words 2
   steps_none words e h =
       let z : at + (2 - 2) ≡ at = omega arith in
       record { sized = e; low = omega arith; high = h; rest = rw z }
 
   module _ (whole words : List ℕ) (i : ℕ) (s : StepsTo f at n whole words i) where
-    pub steps_next : (v : ℕ) → i < n → n ≤ 510 → v ≡ stepped (get_or words (i - 2) 0) (byte f (at + (i - 2))) → StepsTo f at n whole (set words i v) (i + 1)
-    steps_next v h m e =
+    pub steps_next : (v : ℕ) → i < n → v ≡ stepped (get_or words (i - 2) 0) (byte f (at + (i - 2))) → StepsTo f at n whole (set words i v) (i + 1)
+    steps_next v h e =
         let e₁ : n - i ≡ suc (n - (i + 1)) = omega arith in
         let e₂ : at + (i + 1 - 2) ≡ at + (i - 2) + 1 = omega (arith, s.low) in
         let e₃ : i + 1 - 2 ≡ i - 1 = omega arith in
@@ -103,11 +126,10 @@ module _ (f : List ℕ) (at n : ℕ) where
           rest = rw (e₂, e₄, e₃, get_or-set_same words i v 0 fits, get_or-set_other words i (i - 1) v 0 (omega (arith, s.low)), add-one i, take-suc-set words i v fits, append_snoc (take i words) v) (rw (add-one i) at more);
         }
 
-    pub steps_all : n ≤ i → take n words ≡ whole
+    pub steps_all : n ≤ i → words ≡ whole
     steps_all h =
-        let e : i ≡ n = omega (arith, s.high) in
         let z : n - i ≡ 0 = omega arith in
-        rw (← e) (sym (append-nil (take i words)) ∙ rw (z, step_words_none f (at + (i - 2)) (get_or words (i - 2) 0) (get_or words (i - 1) 0)) at s.rest)
+        sym (take_all i words (omega (arith, s.sized))) ∙ (sym (append-nil (take i words)) ∙ rw (z, step_words_none f (at + (i - 2)) (get_or words (i - 2) 0) (get_or words (i - 1) 0)) at s.rest)
 
 -- the three forms that corners have
 pub words_full : (f : List ℕ) (at : ℕ) → byte f 3 ≡ 1 → corner_words f at ≡ fields_from f (at + 1) (2 * byte f at)
@@ -123,11 +145,10 @@ pub words_short : (f : List ℕ) (at : ℕ) → (byte f 3 ≡ 1 → ⊥) → (by
 unfolding corner_words
 words_short f at v c = rw (ne_eqb (byte f 3) 1 v, ne_eqb (byte f at) 0 c)
 
--- the words of the corners, for each way out of the code
+-- the words of the corners, for each way through the code
 module _ (f : List ℕ) (at v b : ℕ) (e : v ≡ byte f 3) (p : b ≡ byte f at) where
-  pub corners_full : (ws : List ℕ) → v ≡ 1 → take (2 * b) ws ≡ fields_from f (at + 1) (2 * b) → take (2 * byte f at) ws ≡ corner_words f at
-  unfolding corner_words
-  corners_full ws k t = rw (eq-eqb (byte f 3) 1 (sym e ∙ k)) (rw p at t)
+  pub corners_full : v ≡ 1 → fields_from f (at + 1) (2 * b) ≡ corner_words f at
+  corners_full k = rw p (sym (words_full f at (sym e ∙ k)))
 
   pub room_full : v ≡ 1 → at + block_size (byte f 3) (byte f at) ≤ length f → at + 1 + 2 * (2 * b) ≤ length f
   room_full k h = let h₂ = rw (sym e ∙ k) at h in omega (arith, block_full (byte f at))
@@ -136,24 +157,21 @@ module _ (f : List ℕ) (at v b : ℕ) (e : v ≡ byte f 3) (p : b ≡ byte f at
     other : byte f 3 ≡ 1 → ⊥
     other h = k (e ∙ h)
 
-    pub corners_none : (ws : List ℕ) → 2 * b ≡ 0 → take (2 * byte f at) ws ≡ corner_words f at
-    unfolding corner_words
-    corners_none ws h =
-        let z : byte f at ≡ 0 = omega arith in
-        rw (z, ne_eqb (byte f 3) 1 other)
+    pub corners_none : 2 * b ≡ 0 → [] ≡ corner_words f at
+    corners_none h = sym (words_empty f at other (omega arith))
 
     module _ (h : 2 * b ≡ 0 → ⊥) where
       some : byte f at ≡ 0 → ⊥
       some z = h (omega arith)
 
-      pub corners_short : (ws first : List ℕ) → take 2 first ≡ fields_from f (at + 1) 2
-          → take (2 * b) ws ≡ take 2 first ++ step_words f (at + 5) (2 * b - 2) (get_or first 0 0) (get_or first 1 0) → take (2 * byte f at) ws ≡ corner_words f at
-      unfolding corner_words fields_from
-      corners_short ws first q t =
+      pub corners_short : (first : List ℕ) → take 2 first ≡ fields_from f (at + 1) 2
+          → take 2 first ++ step_words f (at + 5) (2 * b - 2) (get_or first 0 0) (get_or first 1 0) ≡ corner_words f at
+      unfolding fields_from
+      corners_short first q =
           let e₃ : at + 1 + 2 ≡ at + 3 = omega arith in
           let a₀ : get_or first 0 0 ≡ field f (at + 1) = sym (get_or-take 2 first 0 0 (omega arith)) ∙ rw q in
           let a₁ : get_or first 1 0 ≡ field f (at + 3) = sym (get_or-take 2 first 1 0 (omega arith)) ∙ (rw q (rw e₃)) in
-          rw (ne_eqb (byte f 3) 1 other, ne_eqb (byte f at) 0 some) (rw (q, a₀, a₁, p, e₃) at t)
+          rw (q, a₀, a₁, p, e₃) (sym (words_short f at other some))
 
       module _ (room : at + block_size (byte f 3) (byte f at) ≤ length f) where
         pub room_first : at + 1 + 2 * 2 ≤ length f
@@ -162,28 +180,36 @@ module _ (f : List ℕ) (at v b : ℕ) (e : v ≡ byte f 3) (p : b ≡ byte f at
         pub room_short : at + 5 + 2 * b ≤ length f + 2
         room_short = omega (arith, block_short (byte f 3) (byte f at) other some)
 
--- inside, word by word
-pub inside_rest : (ws : List ℕ) (i : ℕ) → i < length ws → get_or ws i 0 ≤ 32767 → inside (drop i ws) ≡ inside (drop (i + 1) ws)
-unfolding inside all
-inside_rest ws i h l = rw (add-one i, drop-cons ws i 0 h, le-leb (get_or ws i 0) 32767 l)
+-- whether each word is inside, from the test of each
+pub inside_when : (ws : List ℕ) (r : Bool) → MatchBool r (AllWithin (λ w. w ≤ 32767) ws 0 (length ws)) ((k : ℕ) × (k < length ws) × HoldsAt (λ w. 32767 < w) ws k) → r ≡ inside ws
+unfolding inside
+inside_when ws true h = sym (every_yes (λ w. leb w 32767) ws 0 (λ k l. le-leb (get_or ws k 0) 32767 (h k 0 (omega arith) l)))
+inside_when ws false (k, l, h) = sym (every_no (λ w. leb w 32767) ws k 0 l (lt-leb (get_or ws k 0) 32767 (h 0)))
 
-pub inside_not : (ws : List ℕ) (i : ℕ) → i < length ws → 32767 < get_or ws i 0 → false ≡ inside (drop i ws)
-unfolding inside all
-inside_not ws i h l = rw (drop-cons ws i 0 h, lt-leb (get_or ws i 0) 32767 l)
+-- the part of the room that a block's words take
+pub room_part : (b : ℕ) (room : List ℕ) → length room ≡ 510 → b < 256 → length (take (2 * b) room) ≡ 2 * b
+room_part b room e h = length-take-le (2 * b) room (omega arith)
 
-pub inside_end : (ws : List ℕ) (i : ℕ) → length ws ≡ i → true ≡ inside (drop i ws)
-unfolding inside all
-inside_end ws i e = rw (← e, drop-length ws)
+pub room_some : (b : ℕ) (part : List ℕ) (t : Bool) → length part ≡ 2 * b → t ≡ eqb (length part) 0 → t ≡ false → 2 * b ≡ 0 → ⊥
+room_some b part t s e h z = let q : true ≡ false = sym (eq-eqb (length part) 0 (s ∙ z)) ∙ (sym e ∙ h) in cc
 
-module _ (ws : List ℕ) (i : ℕ) (low : i ≤ length ws) (so : inside ws ≡ inside (drop i ws)) where
-  pub inside_next : i < length ws → get_or ws i 0 ≤ 32767 → inside ws ≡ inside (drop (i + 1) ws)
-  inside_next h l = so ∙ inside_rest ws i h l
+pub room_none : (b : ℕ) (part ws : List ℕ) (t : Bool) → length part ≡ 2 * b → t ≡ eqb (length part) 0 → t ≡ true → (2 * b ≡ 0 → [] ≡ ws) → part ≡ ws
+room_none b part ws t s e h w =
+    let z : length part ≡ 0 = eqb-true (length part) 0 (sym e ∙ h) in
+    nil_from_length part z ∙ w (sym s ∙ z)
 
-  pub inside_no : i < length ws → 32767 < get_or ws i 0 → false ≡ inside ws
-  inside_no h l = inside_not ws i h l ∙ sym so
+pub two : (b : ℕ) (part : List ℕ) → length part ≡ 2 * b → (2 * b ≡ 0 → ⊥) → length (take 2 part) ≡ 2
+two b part s h = length-take-le 2 part (omega arith)
 
-  pub inside_yes : length ws ≤ i → true ≡ inside ws
-  inside_yes h = inside_end ws i (omega arith) ∙ sym so
+module _ (f : List ℕ) (at b : ℕ) (part got : List ℕ) (s : length part ≡ 2 * b) (h : 2 * b ≡ 0 → ⊥) (e : got ≡ fields_from f at (length (take 2 part))) where
+  got_two : length got ≡ 2
+  got_two = ap length e ∙ (fields_length f at _ ∙ two b part s h)
+
+  pub first_two : take 2 (got ++ drop 2 part) ≡ fields_from f at 2
+  first_two = rw (take-append-le 2 got (drop 2 part) (omega (arith, got_two)), take_all 2 got (omega (arith, got_two))) (e ∙ rw (two b part s h))
+
+  pub first_size : length (got ++ drop 2 part) ≡ 2 * b
+  first_size = let l = got_two in rw (length-append got (drop 2 part), length-drop 2 part, l, s) (omega arith)
 
 pub corners_length : (f : List ℕ) (at : ℕ) → length (corner_words f at) ≡ 2 * byte f at
 unfolding corner_words

@@ -1,14 +1,14 @@
 -- Bytes past the end, the size of a block's count and corners, and displacements, for each way out of the code.
-use mathlib.Core.Path.{◌≡◌, refl, sym, ◌∙◌}
+use mathlib.Core.Path.{◌≡◌, refl, sym}
 use mathlib.Core.List.{List}
 use Prim.Native.Nat.{ℕ, suc, ◌+◌, ◌*◌, ◌-◌, ◌<◌, ◌≤◌}
 use native.Mathlib.Omega.{arith}
-use native.Mathlib.Decide.{ℕ_discrete}
-use lib.IntN.{pos, negsuc, ◌-ℤ◌}
+use native.Mathlib.Decide.{dec_lt, ℕ_discrete}
+use lib.IntN.{ℤ}
 use lib.ListN.{length, get_or-eq_default}
-use mir.Syntax.{w16, w32}
-use mir.Val.{SFits, to_z, of_z}
-use mir.ValLaws.{to_z-of_z}
+use mir.Syntax.{w16}
+use mir.Val.{to_z, of_z}
+use Rattle.std.proofs.lemmas.Int.{of_z-to_z}
 use borrow.Author.Tests.{lt-ltb, le-ltb, eq-eqb, ne_eqb}
 use Rattle.file_words.specs.Words.{byte, block_size, displacement}
 
@@ -54,25 +54,10 @@ pub low_value : (v : ℕ) → v < 32768 → to_z w16 v ≡ displacement v
 unfolding displacement
 low_value v h = rw (lt-ltb v 32768 h)
 
-module _ (v : ℕ) (low : 32768 ≤ v) (high : v < 65536) where
-  below : pos v -ℤ pos 65536 ≡ negsuc (65535 - v)
-  below = let e : 65536 - suc v ≡ 65535 - v = omega arith in rw (lt-ltb v 65536 high, e)
+high_value : (v : ℕ) → 32768 ≤ v → v < 65536 → to_z w16 v ≡ displacement v
+unfolding displacement
+high_value v low high = let e : 65536 - suc v ≡ 65535 - v = omega arith in rw (le-ltb v 32768 low, lt-ltb v 65536 high, e)
 
-  wide : to_z w32 v ≡ pos v
-  wide = rw (lt-ltb v 2147483648 (omega arith))
-
-  pub wide_fits : SFits w32 (to_z w32 v -ℤ pos 65536)
-  wide_fits = rw (wide, below) (record { sfits = omega arith })
-
-  back : to_z w32 (of_z w32 (to_z w32 v -ℤ pos 65536)) ≡ negsuc (65535 - v)
-  back = to_z-of_z w32 _ wide_fits ∙ rw (wide, below)
-
-  narrow : SFits w16 (negsuc (65535 - v))
-  narrow = record { sfits = omega arith }
-
-  pub narrow_fits : SFits w16 (to_z w32 (of_z w32 (to_z w32 v -ℤ pos 65536)))
-  narrow_fits = rw back narrow
-
-  pub high_value : to_z w16 (of_z w16 (to_z w32 (of_z w32 (to_z w32 v -ℤ pos 65536)))) ≡ displacement v
-  unfolding displacement
-  high_value = rw (back, le-ltb v 32768 low, below) (to_z-of_z w16 (negsuc (65535 - v)) narrow)
+pub displaced : (v : ℕ) (z : ℤ) → v < 65536 → z ≡ to_z w16 v → to_z w16 (of_z w16 z) ≡ displacement v
+displaced v z h e =
+    rw (e, of_z-to_z w16 v h) (elim (dec_lt v 32768) [ yes l ↦ low_value v l | no l ↦ high_value v (omega arith) h ])

@@ -1,8 +1,5 @@
-use Rattle.file_words.proofs.Corners.{step_up, step_down}
+use Rattle.file_words.proofs.Corners.{stepped_by}
 use Rattle.file_words.proofs.stepped.Goals as goal
 
-pub returns-then-s-lt128 : goal.returns-then-s-lt128
-returns-then-s-lt128 c = search step_up
-
 pub returns : goal.returns
-returns c = search step_down
+returns c = stepped_by _ _ _ _ _ c.ranges.step.fits c.cast_signed.ensures c.from.ensures c.wrapping_add_signed.ensures
