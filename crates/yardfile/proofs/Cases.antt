@@ -1,58 +1,24 @@
 -- The answers of the reader, one law for each way out of the code.
+use mathlib.Core.Logic.{◌⊎◌, inl, inr}
 use mathlib.Core.Path.{◌≡◌, refl, sym, ◌∙◌}
 use mathlib.Core.List.{List}
-use mathlib.Core.Bool.{Bool, true, false, not, ◌&&◌, cond, and-false}
+use mathlib.Core.Bool.{Bool, true, false, ◌&&◌, cond, and-false}
 use Prim.Native.Nat.{ℕ, ◌+◌, ◌*◌, ◌<◌, ◌≤◌}
 use native.Mathlib.Omega.{arith}
 use native.Mathlib.Decide.{dec_lt, ℕ_discrete}
 use lib.Dec.{leb, eqb}
 use lib.ListN.{length}
-use borrow.Author.Tests.{le-leb, lt-leb, eq-eqb, ne_eqb, leb-true, eqb-true, not-true, not-false}
+use borrow.Author.Tests.{le-leb, lt-leb, eq-eqb, ne_eqb, leb-true, eqb-true}
 use Rattle.lists.proofs.Every.{both}
 use Rattle.file_words.specs.Words.{byte, block_size}
 use Rattle.file_words.proofs.Sizes.{block_one}
 use Rattle.yardfile.specs.declared.Item.{Item}
-use Rattle.yardfile.specs.declared.Reading.TheVariants.{Found, End, Refused}
-use Rattle.yardfile.specs.File.{head_right, plain_words, body_size, kind_right, record_whole, corners_right, item_at, read_at}
-
-module _ (f : List ℕ) where
-  pub head_short : length f < 5 → false ≡ head_right f
-  unfolding head_right
-  head_short h = rw (lt-leb 5 (length f) h)
-
-  module _ (low : 5 ≤ length f) where
-    pub head_long : 8192 < length f → false ≡ head_right f
-    unfolding head_right
-    head_long h = rw (le-leb 5 (length f) low, lt-leb (length f) 8192 h)
-
-    module _ (high : length f ≤ 8192) where
-      pub head_first : (byte f 0 ≡ 89 → ⊥) → false ≡ head_right f
-      unfolding head_right
-      head_first h = rw (le-leb 5 (length f) low, le-leb (length f) 8192 high, ne_eqb (byte f 0) 89 h)
-
-      module _ (first : byte f 0 ≡ 89) where
-        pub head_second : (byte f 1 ≡ 82 → ⊥) → false ≡ head_right f
-        unfolding head_right
-        head_second h = rw (le-leb 5 (length f) low, le-leb (length f) 8192 high, first, ne_eqb (byte f 1) 82 h)
-
-        module _ (second : byte f 1 ≡ 82) where
-          pub head_third : (byte f 2 ≡ 68 → ⊥) → false ≡ head_right f
-          unfolding head_right
-          head_third h = rw (le-leb 5 (length f) low, le-leb (length f) 8192 high, first, second, ne_eqb (byte f 2) 68 h)
-
-          module _ (third : byte f 2 ≡ 68) where
-            pub head_version_low : byte f 3 < 1 → false ≡ head_right f
-            unfolding head_right
-            head_version_low h = rw (le-leb 5 (length f) low, le-leb (length f) 8192 high, first, second, third, lt-leb 1 (byte f 3) h)
-
-            module _ (one : 1 ≤ byte f 3) where
-              pub head_version_high : 2 < byte f 3 → false ≡ head_right f
-              unfolding head_right
-              head_version_high h = rw (le-leb 5 (length f) low, le-leb (length f) 8192 high, first, second, third, le-leb 1 (byte f 3) one, lt-leb (byte f 3) 2 h)
-
-              pub head_last : byte f 3 ≤ 2 → eqb (byte f 4) 0 ≡ head_right f
-              unfolding head_right
-              head_last h = rw (le-leb 5 (length f) low, le-leb (length f) 8192 high, first, second, third, le-leb 1 (byte f 3) one, le-leb (byte f 3) 2 h)
+use Rattle.yardfile.specs.declared.Kind.{Kind}
+use Rattle.yardfile.specs.declared.Kind.TheVariants.{AddBlock, RemoveBlock, MoveBlock, AddRun, RemoveRun, MoveRun, SetCharge}
+use Rattle.refusals.specs.declared.Refusal.{Refusal}
+use Rattle.refusals.specs.declared.Refusal.TheVariants.{NoYardFile, BrokenRecord, CornerOffTheYard}
+use Rattle.std.proofs.Common.{Some, None, Result, Ok, Err}
+use Rattle.yardfile.specs.File.{kind_byte, kind_of, kind_at, head_right, plain_words, body_size, kind_right, record_whole, corners_right, item_at, read_at}
 
 -- what a right header says, piece by piece
 pub record Head (f : List ℕ) : Type 0 where
@@ -113,10 +79,6 @@ module _ (k : ℕ) where
   unfolding plain_words
   plain_seven e = rw e
 
-  pub plain_none : (k ≡ 3 → ⊥) → (k ≡ 4 → ⊥) → (k ≡ 6 → ⊥) → (k ≡ 7 → ⊥) → 0 ≡ plain_words k
-  unfolding plain_words
-  plain_none a b c d = rw (ne_eqb k 3 a, ne_eqb k 4 b, ne_eqb k 6 c, ne_eqb k 7 d)
-
 module _ (f : List ℕ) (at : ℕ) where
   pub body_block : byte f at ≡ 1 → block_size (byte f 3) (byte f (at + 2)) ≡ body_size f at
   unfolding body_size
@@ -132,30 +94,21 @@ module _ (f : List ℕ) (at : ℕ) where
   pub body_fields : (n : ℕ) → (byte f at ≡ 1 → ⊥) → n ≡ plain_words (byte f at) → 2 * n ≡ body_size f at
   body_fields n k e = rw e (body_plain k)
 
-  pub whole_low : byte f at < 1 → false ≡ record_whole f at
+  pub whole_other : (byte f at < 1) ⊎ ((1 ≤ byte f at) × (7 < byte f at)) → false ≡ record_whole f at
   unfolding record_whole
-  whole_low h = rw (lt-leb 1 (byte f at) h)
+  whole_other (inl h) = rw (lt-leb 1 (byte f at) h)
+  whole_other (inr h) = rw (lt-leb (byte f at) 7 h.1, and-false (leb 1 (byte f at)))
 
-  module _ (low : 1 ≤ byte f at) where
-    pub whole_high : 7 < byte f at → false ≡ record_whole f at
-    unfolding record_whole
-    whole_high h = rw (le-leb 1 (byte f at) low, lt-leb (byte f at) 7 h)
-
-    module _ (high : byte f at ≤ 7) where
-      pub whole_short : length f < at + 2 → false ≡ record_whole f at
-      unfolding record_whole
-      whole_short h = rw (le-leb 1 (byte f at) low, le-leb (byte f at) 7 high, lt-leb (at + 2) (length f) h)
-
-      -- the count byte of a block is one of the bytes that its size counts
-      pub whole_last : (n : ℕ) → at + 2 ≤ length f → n ≡ body_size f at → leb (at + 2 + n) (length f) ≡ record_whole f at
-      unfolding record_whole
-      whole_last n h e = rw (e, le-leb 1 (byte f at) low, le-leb (byte f at) 7 high, le-leb (at + 2) (length f) h) (go (ℕ_discrete (byte f at) 1) (dec_lt (length f) (at + 2 + body_size f at)))
-        where
-          go : Dec (byte f at ≡ 1) → Dec (length f < at + 2 + body_size f at)
-              → leb (at + 2 + body_size f at) (length f) ≡ (cond (eqb (byte f at) 1) (leb (at + 3) (length f)) true) && leb (at + 2 + body_size f at) (length f)
-          go (no k) d = rw (ne_eqb (byte f at) 1 k)
-          go (yes k) (yes l) = rw (lt-leb (at + 2 + body_size f at) (length f) l, and-false (cond (eqb (byte f at) 1) (leb (at + 3) (length f)) true))
-          go (yes k) (no l) = rw (eq-eqb (byte f at) 1 k, le-leb (at + 3) (length f) (omega (arith, body_block k, block_one (byte f 3) (byte f (at + 2)))))
+  -- the count byte of a block is one of the bytes that its size counts
+  pub whole_last : (n : ℕ) → 1 ≤ byte f at → byte f at ≤ 7 → n ≡ body_size f at → leb (at + 2 + n) (length f) ≡ record_whole f at
+  unfolding record_whole
+  whole_last n low high e = rw (e, le-leb 1 (byte f at) low, le-leb (byte f at) 7 high) (go (ℕ_discrete (byte f at) 1) (dec_lt (length f) (at + 2 + body_size f at)))
+    where
+      go : Dec (byte f at ≡ 1) → Dec (length f < at + 2 + body_size f at)
+          → leb (at + 2 + body_size f at) (length f) ≡ leb (at + 2) (length f) && (cond (eqb (byte f at) 1) (leb (at + 3) (length f)) true) && leb (at + 2 + body_size f at) (length f)
+      go k (yes l) = rw (lt-leb (at + 2 + body_size f at) (length f) l, and-false (leb (at + 2) (length f) && cond (eqb (byte f at) 1) (leb (at + 3) (length f)) true))
+      go (no k) (no l) = rw (ne_eqb (byte f at) 1 k, le-leb (at + 2) (length f) (omega arith))
+      go (yes k) (no l) = rw (eq-eqb (byte f at) 1 k, le-leb (at + 2) (length f) (omega arith), le-leb (at + 3) (length f) (omega (arith, body_block k, block_one (byte f 3) (byte f (at + 2)))))
 
   pub whole_kind : record_whole f at ≡ true → (1 ≤ byte f at) × (byte f at ≤ 7)
   unfolding record_whole
@@ -168,56 +121,101 @@ module _ (f : List ℕ) (at : ℕ) where
       (leb-true 1 _ h₄.0, leb-true _ 7 h₄.1)
 
   pub whole_true : 1 ≤ byte f at → byte f at ≤ 7 → at + 2 + body_size f at ≤ length f → record_whole f at ≡ true
-  whole_true l h e = sym (whole_last l h (body_size f at) (omega arith) refl) ∙ le-leb (at + 2 + body_size f at) (length f) e
+  whole_true l h e = sym (whole_last (body_size f at) l h refl) ∙ le-leb (at + 2 + body_size f at) (length f) e
 
   pub whole_fits : record_whole f at ≡ true → at + 2 + body_size f at ≤ length f
   unfolding record_whole
   whole_fits h =
       leb-true _ _ (both (kind_right (byte f at) && leb (at + 2) (length f) && (cond (eqb (byte f at) 1) (leb (at + 3) (length f)) true)) (leb (at + 2 + body_size f at) (length f)) h).1
 
-  pub read_no_head : (t : Bool) → t ≡ head_right f → not t ≡ true → Refused 9 ≡ read_at f at
+  pub read_no_head : (t : Bool) → t ≡ head_right f → t ≡ false → Err NoYardFile ≡ read_at f at
   unfolding read_at
-  read_no_head t e h = rw (sym e ∙ not-true t h)
+  read_no_head t e h = rw (sym e ∙ h)
 
-  module _ (t : Bool) (e : t ≡ head_right f) (right : not t ≡ false) where
+  module _ (t : Bool) (e : t ≡ head_right f) (right : t ≡ true) where
     head : head_right f ≡ true
-    head = sym e ∙ not-false t right
+    head = sym e ∙ right
 
-    pub read_before : at < 5 → Refused 10 ≡ read_at f at
+    pub read_before : at < 5 → Err BrokenRecord ≡ read_at f at
     unfolding read_at
     read_before h = rw (head, lt-leb 5 at h)
 
     module _ (low : 5 ≤ at) where
-      pub read_past : length f < at → Refused 10 ≡ read_at f at
+      pub read_past : length f < at → Err BrokenRecord ≡ read_at f at
       unfolding read_at
       read_past h = rw (head, le-leb 5 at low, lt-leb at (length f) h)
 
       module _ (high : at ≤ length f) where
-        pub read_end : at ≡ length f → End ≡ read_at f at
+        pub read_end : at ≡ length f → Ok None ≡ read_at f at
         unfolding read_at
         read_end h = rw (head, le-leb 5 at low, le-leb at (length f) high, eq-eqb at (length f) h)
 
         module _ (short : at ≡ length f → ⊥) where
-          pub read_cut : (w : Bool) → w ≡ record_whole f at → not w ≡ true → Refused 10 ≡ read_at f at
+          pub read_cut : (w : Bool) → w ≡ record_whole f at → w ≡ false → Err BrokenRecord ≡ read_at f at
           unfolding read_at
-          read_cut w g h = rw (head, le-leb 5 at low, le-leb at (length f) high, ne_eqb at (length f) short, sym g ∙ not-true w h)
+          read_cut w g h = rw (head, le-leb 5 at low, le-leb at (length f) high, ne_eqb at (length f) short, sym g ∙ h)
 
-          module _ (w : Bool) (g : w ≡ record_whole f at) (whole : not w ≡ false) where
-            pub read_outside : (t : Bool) → t ≡ corners_right f at → not t ≡ true → Refused 22 ≡ read_at f at
+          module _ (w : Bool) (g : w ≡ record_whole f at) (whole : w ≡ true) where
+            pub read_outside : (t : Bool) → t ≡ corners_right f at → t ≡ false → Err CornerOffTheYard ≡ read_at f at
             unfolding read_at
-            read_outside t p h = rw (head, le-leb 5 at low, le-leb at (length f) high, ne_eqb at (length f) short, sym g ∙ not-false w whole, sym p ∙ not-true t h)
+            read_outside t p h = rw (head, le-leb 5 at low, le-leb at (length f) high, ne_eqb at (length f) short, sym g ∙ whole, sym p ∙ h)
 
-            pub read_found : (t : Bool) (i : Item) → t ≡ corners_right f at → not t ≡ false → i ≡ item_at f at → Found i ≡ read_at f at
+            pub read_found : (t : Bool) (i : Item) → t ≡ corners_right f at → t ≡ true → i ≡ item_at f at → Ok (Some i) ≡ read_at f at
             unfolding read_at
-            read_found t i p h b = rw (head, le-leb 5 at low, le-leb at (length f) high, ne_eqb at (length f) short, sym g ∙ not-false w whole, sym p ∙ not-false t h, b)
+            read_found t i p h b = rw (head, le-leb 5 at low, le-leb at (length f) high, ne_eqb at (length f) short, sym g ∙ whole, sym p ∙ h, b)
 
 -- what the record's bytes ask of the file
-pub file_size : (f : List ℕ) (t : Bool) → t ≡ head_right f → not t ≡ false → length f ≤ 8192
-file_size f t e h = head_small f (sym e ∙ not-false t h)
+pub file_size : (f : List ℕ) (t : Bool) → t ≡ head_right f → t ≡ true → length f ≤ 8192
+file_size f t e h = head_small f (sym e ∙ h)
 
-pub whole_inside : (f : List ℕ) (at : ℕ) (w : Bool) → w ≡ record_whole f at → not w ≡ false → at + 2 + body_size f at ≤ length f
-whole_inside f at w e h = whole_fits f at (sym e ∙ not-false w h)
+pub whole_inside : (f : List ℕ) (at : ℕ) (w : Bool) → w ≡ record_whole f at → w ≡ true → at + 2 + body_size f at ≤ length f
+whole_inside f at w e h = whole_fits f at (sym e ∙ h)
 
-pub item_made : (f : List ℕ) (at n : ℕ) → n ≡ body_size f at
-    → ◌≡◌ {A = Item} (record { kind = byte f at; number = byte f (at + 1); fields = at + 2; next = at + 2 + n }) (item_at f at)
-item_made f at n e = rw e
+pub item_made : (f : List ℕ) (at n : ℕ) (k : Kind) → n ≡ body_size f at → k ≡ kind_of (byte f at)
+    → ◌≡◌ {A = Item} (record { kind = k; number = byte f (at + 1); fields = at + 2; next = at + 2 + n }) (item_at f at)
+item_made f at n k e h = rw (e, h)
+
+-- a kind's byte is decoded to it, and a byte from 1 to 7 is that of its kind
+pub kind_byte_back : (k : Kind) → kind_of (kind_byte k) ≡ k
+unfolding kind_of
+kind_byte_back AddBlock = refl
+kind_byte_back RemoveBlock = refl
+kind_byte_back MoveBlock = refl
+kind_byte_back AddRun = refl
+kind_byte_back RemoveRun = refl
+kind_byte_back MoveRun = refl
+kind_byte_back SetCharge = refl
+
+pub kind_of_back : (b : ℕ) → 1 ≤ b → b ≤ 7 → kind_byte (kind_of b) ≡ b
+unfolding kind_of
+kind_of_back b l h =
+    elim (ℕ_discrete b 1) [
+      | yes e ↦ rw e
+      | no a ↦ elim (ℕ_discrete b 2) [
+        | yes e ↦ rw e
+        | no c ↦ elim (ℕ_discrete b 3) [
+          | yes e ↦ rw e
+          | no d ↦ elim (ℕ_discrete b 4) [
+            | yes e ↦ rw e
+            | no g ↦ elim (ℕ_discrete b 5) [
+              | yes e ↦ rw e
+              | no i ↦ elim (ℕ_discrete b 6) [
+                | yes e ↦ rw e
+                | no j ↦ rw (ne_eqb b 1 a, ne_eqb b 2 c, ne_eqb b 3 d, ne_eqb b 4 g, ne_eqb b 5 i, ne_eqb b 6 j) (omega arith)
+              ]
+            ]
+          ]
+        ]
+      ]
+    ]
+
+-- the kind of a whole record is known
+pub kind_known : (f : List ℕ) (at : ℕ) (w : Bool) → w ≡ record_whole f at → w ≡ true → kind_at (byte f at) ≡ Ok (kind_of (byte f at))
+unfolding kind_at
+kind_known f at w e h = let k = whole_kind f at (sym e ∙ h) in rw (le-leb 1 (byte f at) k.0, le-leb (byte f at) 7 k.1)
+
+pub kind_got : (f : List ℕ) (at : ℕ) (w : Bool) (k : Kind) (r : Result Kind Refusal) → w ≡ record_whole f at → w ≡ true → r ≡ kind_at (byte f at) → r ≡ Ok k → k ≡ kind_of (byte f at)
+kind_got f at w k r e h q s = let z : ◌≡◌ {A = Result Kind Refusal} (Ok k) (Ok (kind_of (byte f at))) = sym s ∙ (q ∙ kind_known f at w e h) in cc
+
+pub kind_not_refused : (f : List ℕ) (at : ℕ) (w : Bool) (x : Refusal) (r : Result Kind Refusal) → w ≡ record_whole f at → w ≡ true → r ≡ kind_at (byte f at) → r ≡ Err x → ⊥
+kind_not_refused f at w x r e h q s = let z : ◌≡◌ {A = Result Kind Refusal} (Err x) (Ok (kind_of (byte f at))) = sym s ∙ (q ∙ kind_known f at w e h) in cc

@@ -2,9 +2,9 @@
 use mathlib.Core.Path.{◌≡◌, sym, ◌∙◌}
 use mathlib.Core.List.{List}
 use mathlib.Core.Bool.{Bool, true}
-use Prim.Native.Nat.{ℕ, ◌+◌, ◌*◌, ◌≤◌}
+use Prim.Native.Nat.{ℕ, ◌+◌, ◌≤◌}
 use native.Mathlib.Omega.{arith}
-use lib.ListN.{length, take}
+use lib.ListN.{length}
 use borrow.Author.Tests.{eq-eqb, ne_eqb}
 use Rattle.file_words.specs.Words.{byte, block_size, corner_words, inside}
 use Rattle.yardfile.specs.File.{body_size, corners_right}
@@ -20,10 +20,9 @@ module _ (f : List ℕ) (at : ℕ) where
     unfolding corners_right
     right_full v p h = rw (eq-eqb (byte f at) 1 (sym e ∙ one), ne_eqb (byte f 3) 2 (λ z. h (p ∙ z)))
 
-    pub right_short : (v b : ℕ) (t : Bool) (ws : List ℕ) → v ≡ byte f 3 → v ≡ 2 → b ≡ byte f (at + 2)
-        → take (2 * byte f (at + 2)) ws ≡ corner_words f (at + 2) → t ≡ inside (take (2 * b) ws) → t ≡ corners_right f at
+    pub right_short : (v : ℕ) (t : Bool) (ws : List ℕ) → v ≡ byte f 3 → v ≡ 2 → ws ≡ corner_words f (at + 2) → t ≡ inside ws → t ≡ corners_right f at
     unfolding corners_right
-    right_short v b t ws p h m q r = rw (eq-eqb (byte f at) 1 (sym e ∙ one), eq-eqb (byte f 3) 2 (sym p ∙ h)) (rw (m, q) at r)
+    right_short v t ws p h q r = rw (eq-eqb (byte f at) 1 (sym e ∙ one), eq-eqb (byte f 3) 2 (sym p ∙ h)) (rw q at r)
 
     pub block_inside : at + 2 + body_size f at ≤ length f → at + 2 + block_size (byte f 3) (byte f (at + 2)) ≤ length f
     block_inside h = omega (arith, body_block f at (sym e ∙ one))

@@ -1,19 +1,19 @@
+use Rattle.std.proofs.Common.{rules}
 use Rattle.yardfile.proofs.Places.{right_other, right_full, right_short, block_inside}
-use Rattle.file_words.proofs.Corners.{corners_count}
-use borrow.Author.Rules.{rules}
 use Rattle.yardfile.proofs.corners_right.Goals as goal
+use Rattle.yardfile.proofs.corners_right.Goals.{then-byte_at-ne1-via-then-byte_at-ne1, then-byte_at-ne1-via-else-byte_at-ne1+then-byte_at-ne2}
 
 pub returns-then-byte_at-ne1 : goal.returns-then-byte_at-ne1
-returns-then-byte_at-ne1 c = search right_other
+returns-then-byte_at-ne1 c =
+    elim c.then-byte_at-ne1.branch [
+      | then-byte_at-ne1-via-then-byte_at-ne1 w ↦ right_other _ _ _ c.byte_at.ensures w.if-byte_at-ne1.true
+      | then-byte_at-ne1-via-else-byte_at-ne1+then-byte_at-ne2 w ↦
+          right_full _ _ _ c.byte_at.ensures w.if-byte_at-ne1.false _ w.byte_at-else-byte_at-ne1.ensures w.if-byte_at-ne2.true
+    ]
 
-pub returns-then-byte_at-ne2 : goal.returns-then-byte_at-ne2
-returns-then-byte_at-ne2 c = search right_full
-
-pub corner_words-words-requires : goal.corner_words-words-requires
-corner_words-words-requires c = (block_inside _ _ _ c.byte_at.ensures c.if-byte_at-ne1.false c.requires.0, search rules)
-
-pub slice_bounds-inside-end : goal.slice_bounds-inside-end
-slice_bounds-inside-end c = search corners_count
+pub corner_words-requires : goal.corner_words-requires
+corner_words-requires c = (block_inside _ _ _ c.byte_at.ensures c.if-byte_at-ne1.false c.requires.0, search rules)
 
 pub returns : goal.returns
-returns c = search right_short
+returns c =
+    right_short _ _ _ c.byte_at.ensures c.if-byte_at-ne1.false _ _ _ c.byte_at-else-byte_at-ne1.ensures c.if-byte_at-ne2.false c.corner_words.ensures c.inside.ensures
