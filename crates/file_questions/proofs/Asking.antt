@@ -1,13 +1,16 @@
 -- One question to a record and to all, and the size of the result, for each way out of the code.
 use mathlib.Core.Path.{◌≡◌, refl, sym, ap, ◌∙◌}
 use mathlib.Core.List.{List}
-use mathlib.Core.Bool.{Bool, true, false, not, ◌||◌}
+use mathlib.Core.Bool.{Bool, true, false}
 use Prim.Native.Nat.{ℕ, ◌+◌, ◌*◌, ◌-◌, ◌<◌, ◌≤◌}
 use native.Mathlib.Omega.{arith}
 use native.Mathlib.Decide.{ℕ_discrete}
 use lib.Dec.{eqb}
-use lib.ListN.{length, take, length-append}
-use borrow.Author.Tests.{eq-eqb, ne_eqb, not-true, not-false}
+use lib.ListN.{length, length-append}
+use borrow.Author.Tests.{eq-eqb, ne_eqb}
+use Rattle.file_questions.specs.declared.Question.{Question}
+use Rattle.file_questions.specs.declared.Question.TheVariants.{Whole, Near, Inside}
+use Rattle.file_questions.specs.inner.Questions.{number_asked}
 use Rattle.file_words.specs.Words.{byte, block_size, corner_words, inside}
 use Rattle.yardfile.specs.File.{body_size, head_right, record_whole}
 use Rattle.yardfile.proofs.Cases.{body_block, body_plain, whole_fits, head_pieces}
@@ -37,15 +40,15 @@ module _ (q : ℕ) (f : List ℕ) (at : ℕ) where
     unfolding asked steps_right places_right
     asked_other other = rw (ne_eqb q 10 ten, ne_eqb (byte f at) 1 (λ z. other (e ∙ z))) (sym (always (eqb q 21)))
 
-    module _ (one : k ≡ 1) (b : ℕ) (ws : List ℕ) (m : b ≡ byte f (at + 2)) (w : take (2 * byte f (at + 2)) ws ≡ corner_words f (at + 2)) (t : Bool) where
-      words_here : take (2 * b) ws ≡ words_at f at
-      words_here = rw m w ∙ sym (words_block f at (sym e ∙ one))
+    module _ (one : k ≡ 1) (ws : List ℕ) (w : ws ≡ corner_words f (at + 2)) (t : Bool) where
+      words_here : ws ≡ words_at f at
+      words_here = w ∙ sym (words_block f at (sym e ∙ one))
 
-      pub asked_21 : q ≡ 21 → t ≡ near (take (2 * b) ws) → t ≡ asked q f at
+      pub asked_21 : q ≡ 21 → t ≡ near ws → t ≡ asked q f at
       unfolding asked steps_right
       asked_21 h r = rw (ne_eqb q 10 ten, eq-eqb q 21 h, eq-eqb (byte f at) 1 (sym e ∙ one)) (r ∙ ap near words_here)
 
-      pub asked_22 : (q ≡ 21 → ⊥) → t ≡ inside (take (2 * b) ws) → t ≡ asked q f at
+      pub asked_22 : (q ≡ 21 → ⊥) → t ≡ inside ws → t ≡ asked q f at
       unfolding asked places_right
       asked_22 h r = rw (ne_eqb q 10 ten, ne_eqb q 21 h, eq-eqb (byte f at) 1 (sym e ∙ one)) (r ∙ ap inside words_here)
 
@@ -72,15 +75,15 @@ module _ (f : List ℕ) (q at : ℕ) (w : Walked f q at) where
   walked_end h = sym (w.same ∙ every_end f (asked q) w.fuel at h)
 
   module _ (l : at < length f) (t : Bool) (e : t ≡ asked q f at) where
-    pub walked_no : not t ≡ true → false ≡ everyone q f
-    walked_no n = sym (w.same ∙ (every_step f at w.fuel l w.enough (asked q) ∙ rw (sym e ∙ not-true t n)))
+    pub walked_no : t ≡ false → false ≡ everyone q f
+    walked_no n = sym (w.same ∙ (every_step f at w.fuel l w.enough (asked q) ∙ rw (sym e ∙ n)))
 
-    module _ (y : not t ≡ false) where
+    module _ (y : t ≡ true) where
       whole_at : record_whole f at ≡ true
       whole_at = go (ℕ_discrete q 10)
         where
           go : Dec (q ≡ 10) → record_whole f at ≡ true
-          go (yes k) = sym (asked_whole f at) ∙ (ap (λ (x : ℕ). asked x f at) (sym k) ∙ (sym e ∙ not-false t y))
+          go (yes k) = sym (asked_whole f at) ∙ (ap (λ (x : ℕ). asked x f at) (sym k) ∙ (sym e ∙ y))
           go (no k) = whole_here f at w.fuel l w.enough (w.whole k)
 
       pub walked_fits : next_at f at ≤ length f
@@ -95,7 +98,7 @@ module _ (f : List ℕ) (q at : ℕ) (w : Walked f q at) where
             low = omega (arith, w.low);
             high = walked_fits;
             whole = λ k. (left_next f at w.fuel l w.enough w.low (w.whole k)).whole;
-            same = w.same ∙ (every_step f at w.fuel l w.enough (asked q) ∙ rw (sym e ∙ not-false t y));
+            same = w.same ∙ (every_step f at w.fuel l w.enough (asked q) ∙ rw (sym e ∙ y));
           })
 
 -- the size of the result
@@ -125,15 +128,19 @@ module _ (f : List ℕ) (v at total : ℕ) (g : Summing f v at total) where
         small = omega (arith, g.small, m);
       })
 
--- question 21 is of version 2 alone
-pub near_spared : (w : ℕ) (b : Bool) → w ≡ 1 → true ≡ (eqb w 1 || b)
-near_spared w b e = rw (eq-eqb w 1 e)
+-- the number of a question says which it is
+pub not_ten : (q : Question) → (q ≡ Whole → ⊥) → number_asked q ≡ 10 → ⊥
+not_ten Whole h e = h refl
+not_ten Near h e = omega arith
+not_ten Inside h e = omega arith
 
-pub near_asked : (w : ℕ) (b t : Bool) → (w ≡ 1 → ⊥) → t ≡ b → t ≡ (eqb w 1 || b)
-near_asked w b t e h = rw (ne_eqb w 1 e) h
+pub not_21 : (q : Question) → (q ≡ Near → ⊥) → number_asked q ≡ 21 → ⊥
+not_21 Whole h e = omega arith
+not_21 Near h e = h refl
+not_21 Inside h e = omega arith
 
-pub head_low : (f : List ℕ) (t : Bool) → t ≡ head_right f → not t ≡ false → 5 ≤ length f
-head_low f t e h = (head_pieces f (sym e ∙ not-false t h)).low
+pub head_low : (f : List ℕ) (t : Bool) → t ≡ head_right f → t ≡ true → 5 ≤ length f
+head_low f t e h = (head_pieces f (sym e ∙ h)).low
 
-pub said : (t b : Bool) → t ≡ b → not t ≡ false → b ≡ true
-said t b e h = sym e ∙ not-false t h
+pub said : (t b : Bool) → t ≡ b → t ≡ true → b ≡ true
+said t b e h = sym e ∙ h

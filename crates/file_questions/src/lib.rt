@@ -5,58 +5,63 @@ ghost use Rattle.std.specs.Prelude.{◌≡◌, true, ◌||◌, ◌<◌, ◌≤�
 ghost use Rattle.file_records.specs.Records.{next_at};
 ghost use Rattle.file_records.specs.Conversions.{step_near, near, converted, answer};
 ghost use Rattle.file_records.specs.inner.Asked.{asked, everyone, size_in};
+ghost use Rattle.refusals.specs.Numbers.{answer_of};
+ghost use Rattle.file_questions.specs.inner.Questions.{number_asked};
 
 use file_words::{block_size, byte_at, corner_words, inside};
+use refusals::Refusal;
 use yardfile::{body_size, head_right, record_whole};
+
+// A question that is put to each record.
+#[derive(Clone, Copy, Debug, PartialEq, Eq)]
+enum Question {
+    Whole,
+    Near,
+    Inside,
+}
 
 // Whether the step from a coordinate to another is from -128 to 127.
 fn step_near(a: u16, c: u16) -> bool
     ensures { result ≡ step_near a c }
 {
-    if (a as u32) + 127 < c as u32 {
-        return false;
-    }
-    (a as u32) <= (c as u32) + 128
+    u32::from(c) <= u32::from(a) + 127 && u32::from(a) <= u32::from(c) + 128
 }
 
 // Whether each step is from -128 to 127.
 fn near(words: &[u16]) -> bool
     ensures { result ≡ near words.now }
 {
-    let mut i = 2;
-    while i < words.len() {
-        let k = i - 2;
-        if !step_near(words[k], words[i]) {
+    for i in 2..words.len() {
+        if !step_near(words[i - 2], words[i]) {
             return false;
         }
-        i += 1;
     }
     true
 }
 
-// The question of this number, to the record at a position.
-fn passes(file: &[u8], at: usize, question: u32) -> bool
-    requires { (length file.now ≤ 8192) × (at < length file.now) × ((question ≡ 10 → ⊥) → next_at file.now at ≤ length file.now) }
-    ensures { result ≡ asked question file.now at }
+// The question, to the record at a position.
+fn passes(file: &[u8], at: usize, question: Question) -> bool
+    requires { (length file.now ≤ 8192) × (at < length file.now) × ((number_asked question ≡ 10 → ⊥) → next_at file.now at ≤ length file.now) }
+    ensures { result ≡ asked (number_asked question) file.now at }
 {
-    if question == 10 {
+    if let Question::Whole = question {
         return record_whole(file, at);
     }
     if byte_at(file, at) != 1 {
         return true;
     }
-    let words = corner_words(file, at + 2);
-    let n = 2 * (byte_at(file, at + 2) as usize);
-    if question == 21 {
-        return near(&words[..n]);
+    let mut room = [0u16; 510];
+    let words = corner_words(file, at + 2, &mut room);
+    if let Question::Near = question {
+        return near(words);
     }
-    inside(&words[..n])
+    inside(words)
 }
 
-// The question of this number, to all records.
-fn every_one(file: &[u8], question: u32) -> bool
-    requires { (length file.now ≤ 8192) × (5 ≤ length file.now) × ((question ≡ 10 → ⊥) → everyone 10 file.now ≡ true) }
-    ensures { result ≡ everyone question file.now }
+// The question, to all records.
+fn every_one(file: &[u8], question: Question) -> bool
+    requires { (length file.now ≤ 8192) × (5 ≤ length file.now) × ((number_asked question ≡ 10 → ⊥) → everyone 10 file.now ≡ true) }
+    ensures { result ≡ everyone (number_asked question) file.now }
 {
     let mut at: usize = 5;
     while at < file.len() {
@@ -73,10 +78,7 @@ fn near_enough(file: &[u8], target: u8) -> bool
     requires { (length file.now ≤ 8192) × (5 ≤ length file.now) × (everyone 10 file.now ≡ true) }
     ensures { result ≡ (eqb target 1 || everyone 21 file.now) }
 {
-    if target == 1 {
-        return true;
-    }
-    every_one(file, 21)
+    target == 1 || every_one(file, Question::Near)
 }
 
 // How many bytes the record at a position has in a version.
@@ -85,9 +87,10 @@ fn size_in(file: &[u8], at: usize, target: u8) -> usize
     ensures { (result ≡ size_in target file.now at) × (result ≤ 1023) }
 {
     if file[at] == 1 {
-        return 2 + block_size(target, byte_at(file, at + 2));
+        2 + block_size(target, byte_at(file, at + 2))
+    } else {
+        2 + body_size(file, at)
     }
-    2 + body_size(file, at)
 }
 
 // How many bytes the file has in a version.
@@ -105,26 +108,26 @@ fn total_size(file: &[u8], target: u8) -> usize
 }
 
 // The first question that fails.
-pub fn first_failing(file: &[u8], source: u8, target: u8) -> u32
-    ensures { result ≡ answer source target file.now }
+pub fn first_failing(file: &[u8], source: u8, target: u8) -> Result<(), Refusal>
+    ensures { answer_of result ≡ answer source target file.now }
 {
     if !head_right(file) {
-        return 9;
+        return Err(Refusal::NoYardFile);
     }
     if byte_at(file, 3) != source {
-        return 9;
+        return Err(Refusal::NoYardFile);
     }
-    if !every_one(file, 10) {
-        return 10;
+    if !every_one(file, Question::Whole) {
+        return Err(Refusal::BrokenRecord);
     }
     if !near_enough(file, target) {
-        return 21;
+        return Err(Refusal::StepTooLong);
     }
-    if !every_one(file, 22) {
-        return 22;
+    if !every_one(file, Question::Inside) {
+        return Err(Refusal::CornerOffTheYard);
     }
     if 8192 < total_size(file, target) {
-        return 9;
+        return Err(Refusal::NoYardFile);
     }
-    0
+    Ok(())
 }

@@ -8,7 +8,7 @@ use native.Mathlib.Decide.{ℕ_discrete}
 use lib.Dec.{leb, eqb}
 use lib.ListN.{length, drop}
 use borrow.Author.Tests.{le-leb, eq-eqb, leb-true, eqb-true, ne_eqb}
-use Rattle.yardfile.specs.declared.Reading.TheVariants.{Found, End}
+use Rattle.std.proofs.Common.{Some, None, Ok}
 use Rattle.file_words.specs.Words.{byte, corner_words, inside}
 use Rattle.yardfile.specs.File.{head_right, record_whole, corners_right, item_at, read_at}
 use Rattle.lists.proofs.Every.{both}
@@ -121,7 +121,7 @@ pub lengthen_shorten : (f : List ℕ) → Bytes f → answer 2 1 f ≡ 0 → (an
 lengthen_shorten f bs ok = (back_accepted 2 1 (λ e. omega arith) (omega arith) (omega arith) f bs ok, back_again 2 1 (λ e. omega arith) (omega arith) (omega arith) f bs ok)
 
 -- what reading finds at the end and at a record
-pub read_end : (f : List ℕ) (at : ℕ) → head_right f ≡ true → 5 ≤ at → at ≡ length f → read_at f at ≡ End
+pub read_end : (f : List ℕ) (at : ℕ) → head_right f ≡ true → 5 ≤ at → at ≡ length f → read_at f at ≡ Ok None
 unfolding read_at
 read_end f at h l e = rw (h, le-leb 5 at l, le-leb at (length f) (omega arith), eq-eqb at (length f) e)
 
@@ -135,6 +135,6 @@ right_inside f at h = go (ℕ_discrete (byte f at) 1)
         rw (eq-eqb (byte f at) 1 k, i) (always (eqb (byte f 3) 2))
     go (no k) = rw (ne_eqb (byte f at) 1 k)
 
-pub read_found : (f : List ℕ) (at : ℕ) → head_right f ≡ true → 5 ≤ at → at < length f → record_whole f at ≡ true → places_right (rec_at f at) ≡ true → read_at f at ≡ Found (item_at f at)
+pub read_found : (f : List ℕ) (at : ℕ) → head_right f ≡ true → 5 ≤ at → at < length f → record_whole f at ≡ true → places_right (rec_at f at) ≡ true → read_at f at ≡ Ok (Some (item_at f at))
 unfolding read_at
 read_found f at h l s w i = rw (h, le-leb 5 at l, le-leb at (length f) (omega arith), ne_eqb at (length f) (λ e. omega arith), w, right_inside f at i)

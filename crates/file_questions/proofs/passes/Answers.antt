@@ -1,25 +1,22 @@
-use Rattle.file_questions.proofs.Asking.{asked_ten, asked_other, asked_room, asked_21, asked_22}
-use Rattle.file_words.proofs.Corners.{corners_count}
+use Rattle.std.proofs.Common.{ap}
+use Rattle.file_questions.specs.inner.Questions.{number_asked}
+use Rattle.file_questions.proofs.Asking.{asked_ten, asked_other, asked_room, asked_21, asked_22, not_ten, not_21}
 use borrow.Author.Rules.{rules}
 use Rattle.file_questions.proofs.passes.Goals as goal
 
-pub returns-then-question-eq10 : goal.returns-then-question-eq10
-returns-then-question-eq10 c = search asked_ten
+pub returns-in-Whole : goal.returns-in-Whole
+returns-in-Whole c = asked_ten _ _ _ _ (ap number_asked c.in-Whole.is) c.record_whole.ensures
 
 pub returns-then-byte_at-ne1 : goal.returns-then-byte_at-ne1
-returns-then-byte_at-ne1 c = search asked_other
+returns-then-byte_at-ne1 c = asked_other _ _ _ (not_ten _ c.in_default.not-Whole) _ c.byte_at.ensures c.if-byte_at-ne1.true
 
 pub corner_words-words-requires : goal.corner_words-words-requires
-corner_words-words-requires c = (asked_room _ _ _ _ c.byte_at.ensures c.if-byte_at-ne1.false c.if-question-eq10.false c.requires.2, search rules)
+corner_words-words-requires c = (asked_room _ _ _ _ c.byte_at.ensures c.if-byte_at-ne1.false (not_ten _ c.in_default.not-Whole) c.requires.2, search rules)
 
-pub slice_bounds-near-end : goal.slice_bounds-near-end
-slice_bounds-near-end c = search corners_count
-
-pub returns-then-question-eq21 : goal.returns-then-question-eq21
-returns-then-question-eq21 c = search asked_21
-
-pub slice_bounds-inside-end : goal.slice_bounds-inside-end
-slice_bounds-inside-end c = search corners_count
+pub returns-in-Near : goal.returns-in-Near
+returns-in-Near c =
+    asked_21 _ _ _ (not_ten _ c.in_default.not-Whole) _ c.byte_at.ensures c.if-byte_at-ne1.false _ c.corner_words-words.ensures _ (ap number_asked c.in-Near.is) c.near.ensures
 
 pub returns : goal.returns
-returns c = search asked_22
+returns c =
+    asked_22 _ _ _ (not_ten _ c.in_default.not-Whole) _ c.byte_at.ensures c.if-byte_at-ne1.false _ c.corner_words-words.ensures _ (not_21 _ c.in_default-question.not-Near) c.inside.ensures

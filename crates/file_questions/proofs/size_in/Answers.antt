@@ -5,5 +5,5 @@ use Rattle.file_questions.proofs.size_in.Goals as goal
 pub returns-then-file-at-eq1 : goal.returns-then-file-at-eq1
 returns-then-file-at-eq1 c = (search in_block, search rules)
 
-pub returns : goal.returns
-returns c = (search in_plain, search rules)
+pub returns-else-file-at-eq1 : goal.returns-else-file-at-eq1
+returns-else-file-at-eq1 c = (search in_plain, search rules)
