@@ -90,21 +90,15 @@ pub same_two : (x y : List ℕ) (i j a b : ℕ) → length y ≡ length (set (se
 same_two x y i j a b h = h ∙ (length-set (set x i a) j b ∙ length-set x i a)
 
 -- a block: its count and its corners
-module _ (f : List ℕ) (at v c : ℕ) (words : List ℕ) (e : c ≡ byte f at) (w : take (2 * byte f at) words ≡ corner_words f at) where
-  corner_part : take (2 * c) words ≡ corner_words f at
-  corner_part = rw e w
+module _ (f : List ℕ) (at v c : ℕ) (words : List ℕ) (e : c ≡ byte f at) (w : words ≡ corner_words f at) where
+  pub block_room : (p : ℕ) (out : List ℕ) → p + block_size v (byte f at) ≤ length out → p + 1 + length (corner_bytes v words) ≤ length (set out p c)
+  block_room p out h = rw w (omega (arith, length-set out p c, corners_size v (byte f at) (corner_words f at) (corners_length f at)))
 
-  pub block_room : (p : ℕ) (out : List ℕ) → p + block_size v (byte f at) ≤ length out → p + 1 + length (corner_bytes v (take (2 * c) words)) ≤ length (set out p c)
-  block_room p out h = rw corner_part (omega (arith, length-set out p c, corners_size v (byte f at) (corner_words f at) (corners_length f at)))
-
-  pub block_out : (out new : List ℕ) (p r : ℕ) → p + block_size v (byte f at) ≤ length out → Written (corner_bytes v (take (2 * c) words)) (set out p c) new (p + 1) r
+  pub block_out : (out new : List ℕ) (p r : ℕ) → p + block_size v (byte f at) ≤ length out → Written (corner_bytes v words) (set out p c) new (p + 1) r
       → Written (length (corner_words f at) / 2 ∷ corner_bytes v (corner_words f at)) out new p r
   block_out out new p r h g =
       let k : length (corner_words f at) / 2 ≡ c = omega (arith, corners_length f at, e) in
-      rw (k, ← corner_part) (written_cons c (corner_bytes v (take (2 * c) words)) out new p r (omega (arith, block_one v (byte f at))) g)
-
-  pub block_count_lem : 2 * c ≡ length (take (2 * c) words)
-  block_count_lem = sym (ap length corner_part ∙ (corners_length f at ∙ rw e))
+      rw (k, ← w) (written_cons c (corner_bytes v words) out new p r (omega (arith, block_one v (byte f at))) g)
 
 -- the fields of a record
 module _ (f : List ℕ) (at k : ℕ) (e : k ≡ byte f at) where
@@ -128,14 +122,14 @@ module _ (f : List ℕ) (at k : ℕ) (e : k ≡ byte f at) where
     pub plain_file : next_at f at ≤ length f → at + 2 + 2 * n ≤ length f
     plain_file h = omega (arith, body_plain f at not_one, count)
 
-    module _ (words : List ℕ) (w : take n words ≡ fields_from f (at + 2) n) where
-      pub plain_count : n ≡ length (take n words)
+    module _ (words : List ℕ) (w : words ≡ fields_from f (at + 2) n) where
+      plain_count : n ≡ length words
       plain_count = sym (ap length w ∙ fields_length f (at + 2) n)
 
-      pub plain_buffer : (v p q : ℕ) → p + size_in v f at ≤ q + 2 → p + 2 * length (take n words) ≤ q
+      pub plain_buffer : (v p q : ℕ) → p + size_in v f at ≤ q + 2 → p + 2 * length words ≤ q
       plain_buffer v p q h = omega (arith, size_other v f at not_one, count, plain_count)
 
-      pub body_out_plain : (v : ℕ) (out new : List ℕ) (p r : ℕ) → Written (word_bytes (take n words)) out new p r → Written (body_bytes v (byte f at) (words_at f at)) out new p r
+      pub body_out_plain : (v : ℕ) (out new : List ℕ) (p r : ℕ) → Written (word_bytes words) out new p r → Written (body_bytes v (byte f at) (words_at f at)) out new p r
       body_out_plain v out new p r g =
           rw (body_other v (byte f at) (words_at f at) not_one, words_plain f at not_one, ← count, ← w) g
 
@@ -163,3 +157,7 @@ record_out v f at a b out new p r e h l g =
     rw (← e, ← h)
     (written_cons a (b ∷ body_bytes v a (words_at f at)) out new p r (omega arith)
     (written_cons b (body_bytes v a (words_at f at)) (set out p a) new (p + 1) r (omega (arith, length-set out p a)) (rw q (rw (← e) at g))))
+
+-- the part of the room that a record's fields take
+pub four_room : (n : ℕ) → n ≤ 4 → length {A = ℕ} (take n (0 ∷ 0 ∷ 0 ∷ 0 ∷ [])) ≡ n
+four_room n h = length-take-le n (0 ∷ 0 ∷ 0 ∷ 0 ∷ []) h

@@ -57,6 +57,10 @@ written_cons a xs out new p r l g =
       reads = g.reads ∙ (rw (add-one p, take-suc-set out p a l, append_snoc (take p out) a));
     }
 
+-- the high byte of a word
+pub high_byte : (w : ℕ) → w < 65536 → w / 256 % 256 ≡ w / 256
+high_byte w h = omega arith
+
 -- words in full, one by one
 words_drop : (ws : List ℕ) (i : ℕ) → i < length ws → word_bytes (drop i ws) ≡ get_or ws i 0 % 256 ∷ get_or ws i 0 / 256 ∷ word_bytes (drop (i + 1) ws)
 unfolding word_bytes

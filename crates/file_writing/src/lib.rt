@@ -7,26 +7,14 @@ ghost use Rattle.file_records.specs.Records.{next_at, words_at, rec_at, word_byt
 ghost use Rattle.file_records.specs.inner.Asked.{size_in};
 ghost use Rattle.file_writing.specs.inner.Written.{Written};
 
-use file_words::{byte_at, corner_words, words_from};
+use file_words::{byte_at, corner_words, fill_fields};
 use yardfile::plain_words;
 
 // The signed byte that leads from a coordinate to another.
 fn step_byte(a: u16, c: u16) -> u8
     ensures { result ≡ step_byte a c }
 {
-    ((65536 + (c as u32) - (a as u32)) % 256) as u8
-}
-
-fn low(word: u16) -> u8
-    ensures { result ≡ word % 256 }
-{
-    (word % 256) as u8
-}
-
-fn high(word: u16) -> u8
-    ensures { result ≡ word / 256 }
-{
-    (word / 256) as u8
+    ((65536 + u32::from(c) - u32::from(a)) % 256) as u8
 }
 
 // Writes words in full.
@@ -35,13 +23,11 @@ fn write_words(words: &[u16], out: &mut [u8], to: usize) -> usize
     ensures { Written (word_bytes words.now) out.old out.new to result }
 {
     let mut at = to;
-    let mut i = 0;
-    while i < words.len() {
-        let word = words[i];
-        out[at] = low(word);
-        out[at + 1] = high(word);
+    for word in words {
+        let [low, high] = word.to_le_bytes();
+        out[at] = low;
+        out[at + 1] = high;
         at += 2;
-        i += 1;
     }
     at
 }
@@ -52,12 +38,10 @@ fn write_steps(words: &[u16], out: &mut [u8], to: usize) -> usize
     ensures { Written (step_bytes (get_or words.now 0 0) (get_or words.now 1 0) (drop 2 words.now)) out.old out.new to result }
 {
     let mut at = to;
-    let mut i = 2;
-    while i < words.len() {
+    for i in 2..words.len() {
         let k = i - 2;
         out[at] = step_byte(words[k], words[i]);
         at += 1;
-        i += 1;
     }
     at
 }
@@ -85,10 +69,10 @@ fn write_block(file: &[u8], at: usize, target: u8, out: &mut [u8], to: usize) ->
         out.old out.new to result }
 {
     let count = byte_at(file, at);
-    let n = 2 * (count as usize);
-    let words = corner_words(file, at);
+    let mut room = [0u16; 510];
+    let words = corner_words(file, at, &mut room);
     out[to] = count;
-    write_corners(&words[..n], target, out, to + 1)
+    write_corners(words, target, out, to + 1)
 }
 
 // Writes the fields of the record at a position.
@@ -102,9 +86,10 @@ fn write_body(file: &[u8], at: usize, target: u8, out: &mut [u8], to: usize) -> 
     if kind == 1 {
         return write_block(file, at + 2, target, out, to);
     }
-    let n = plain_words(kind);
-    let words = words_from(file, at + 2, n);
-    write_words(&words[..n], out, to)
+    let mut room = [0u16; 4];
+    let words = &mut room[..plain_words(kind)];
+    fill_fields(file, at + 2, words);
+    write_words(words, out, to)
 }
 
 // Writes the record at a position.
@@ -123,9 +108,5 @@ pub fn write_head(target: u8, out: &mut [u8])
     requires { 5 ≤ length out.old }
     ensures { take 5 out.new ≡ 89 ∷ 82 ∷ 68 ∷ target ∷ 0 ∷ [] }
 {
-    out[0] = 89;
-    out[1] = 82;
-    out[2] = 68;
-    out[3] = target;
-    out[4] = 0;
+    out[..5].copy_from_slice(&[b'Y', b'R', b'D', target, 0]);
 }

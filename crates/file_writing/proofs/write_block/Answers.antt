@@ -1,11 +1,8 @@
-use Rattle.file_writing.proofs.Parts.{block_first, block_room, block_out, block_count_lem, same_set}
+use Rattle.file_writing.proofs.Parts.{block_first, block_room, block_out, same_set}
 use Rattle.file_writing.proofs.write_block.Goals as goal
 
 pub bounds-out-to : goal.bounds-out-to
 bounds-out-to c = search block_first
-
-pub slice_bounds-write_corners-end : goal.slice_bounds-write_corners-end
-slice_bounds-write_corners-end c = search block_count_lem
 
 pub write_corners-requires : goal.write_corners-requires
 write_corners-requires c = search block_room
