@@ -1,47 +1,41 @@
 -- The words of the blocks that may share a place, built from the highest bit down, and what words of zeros say.
-use mathlib.Core.Path.{◌≡◌, sym, ap, subst, ◌∙◌}
+use mathlib.Core.Bool.{Bool, true, false}
+use mathlib.Core.Path.{◌≡◌, refl, sym, ap, subst, ◌∙◌}
 use mathlib.Core.List.{List}
 use mathlib.Core.Logic.{⊎_elim}
 use Prim.Native.Nat.{ℕ, zero, suc, ◌+◌, ◌*◌, ◌-◌, ◌^◌, ◌<◌, ◌≤◌}
 use native.Mathlib.Nat.{pow-suc}
 use native.Mathlib.Omega.{arith}
 use lib.Pow.{pow_mono}
+use mir.Val.{bool_byte}
 use Rattle.geometry.specs.Words.{word}
 use Rattle.bits.specs.inner.Bits.{bit}
 use Rattle.bits.proofs.Counting.{bit_zero}
 use Rattle.seams.specs.Seam.{Disjoint}
 use Rattle.neighbours.specs.inner.Rectangles.{Parted, Listed}
 use Rattle.neighbours.proofs.Answers.{parted_words, bounds_east, bounds_north}
-use Rattle.seam_search.specs.inner.Masks.{Boxes, Divided, MaskBit, Mask, Masks}
+use Rattle.seam_search.specs.inner.Masks.{Boxed, Divided, Mask, Masks}
+use Rattle.seam_search.specs.declared.Boxes.{Boxes}
 
 -- ---- by the rectangles of two blocks
-one_parted : {blocks : List ℕ} {p q : ℕ} → p ≡ q → Parted blocks p q
+pub one_parted : {blocks : List ℕ} {p q : ℕ} → p ≡ q → Parted blocks p q
 one_parted e = record { parted = λ n x y h f g. e }
 
 turn_parted : {blocks : List ℕ} {p q : ℕ} → Parted blocks q p → Parted blocks p q
 turn_parted h = record { parted = λ n x y l f g. sym (h.parted n x y l g f) }
 
-near_parted : {blocks : List ℕ} {p q : ℕ} → Parted blocks p q → MaskBit blocks p q 0
-near_parted h = record { small = omega arith; parted = λ e. h }
-
-pub near_same : {blocks : List ℕ} {p q : ℕ} → p ≡ q → MaskBit blocks p q 0
-near_same e = near_parted (one_parted e)
-
-pub near_one : {blocks : List ℕ} {p q : ℕ} → MaskBit blocks p q 1
-near_one = record { small = omega arith; parted = λ e. absurd (omega arith) }
-
-module _ {blocks west east south north : List ℕ} (b : Boxes blocks west east south north) where
-  east_of_lem : (p q : ℕ) → p < 24 → q < 24 → word east p < word west q → Parted blocks p q
+module _ {blocks : List ℕ} {boxes : Boxes} (b : Boxed blocks boxes) where
+  east_of_lem : (p q : ℕ) → p < 24 → q < 24 → word boxes.east p < word boxes.west q → Parted blocks p q
   east_of_lem p q l m g = parted_words blocks p q (bounds_east g (b.easts.each p l) (b.wests.each q m))
 
-  north_of_lem : (p q : ℕ) → p < 24 → q < 24 → word north p < word south q → Parted blocks p q
+  north_of_lem : (p q : ℕ) → p < 24 → q < 24 → word boxes.north p < word boxes.south q → Parted blocks p q
   north_of_lem p q l m g = parted_words blocks p q (bounds_north g (b.norths.each p l) (b.souths.each q m))
 
-  pub near_east : {p q : ℕ} → p < 24 → q < 24 → Divided west east p q → MaskBit blocks p q 0
-  near_east l m d = near_parted (⊎_elim (λ g. east_of_lem _ _ l m g) (λ g. turn_parted (east_of_lem _ _ m l g)) d)
+  pub divided_east : {p q : ℕ} → p < 24 → q < 24 → Divided boxes.west boxes.east p q → Parted blocks p q
+  divided_east l m d = ⊎_elim (λ g. east_of_lem _ _ l m g) (λ g. turn_parted (east_of_lem _ _ m l g)) d
 
-  pub near_north : {p q : ℕ} → p < 24 → q < 24 → Divided south north p q → MaskBit blocks p q 0
-  near_north l m d = near_parted (⊎_elim (λ g. north_of_lem _ _ l m g) (λ g. turn_parted (north_of_lem _ _ m l g)) d)
+  pub divided_north : {p q : ℕ} → p < 24 → q < 24 → Divided boxes.south boxes.north p q → Parted blocks p q
+  divided_north l m d = ⊎_elim (λ g. north_of_lem _ _ l m g) (λ g. turn_parted (north_of_lem _ _ m l g)) d
 
 -- ---- one word
 -- bit i of w is that of block q + i
@@ -53,20 +47,28 @@ pub record MaskFrom (blocks : List ℕ) (p q w : ℕ) : Type 0 where
 pub mask_none : {blocks : List ℕ} {p : ℕ} → MaskFrom blocks p 24 0
 mask_none = record { high = omega arith; small = omega arith; each = λ i l. absurd (omega arith) }
 
+small_bit : (t : Bool) → bool_byte t < 2
+small_bit true = omega arith
+small_bit false = omega arith
+
+zero_bit : (t : Bool) → bool_byte t ≡ 0 → t ≡ false
+zero_bit true e = absurd (omega (arith, e))
+zero_bit false e = refl
+
 module _ {blocks : List ℕ} {p q w : ℕ} (m : MaskFrom blocks p q w) where
   pub mask_small : w < 9223372036854775808
   mask_small = omega (arith, m.small, pow_mono {i = 24 - q} {j = 63} (omega arith))
 
-  pub mask_next : {x r : ℕ} → 0 < q → MaskBit blocks p (q - 1) x → bit 0 r ≡ x → ((i : ℕ) → bit (i + 1) r ≡ bit i w) → r ≡ 2 * w + x → MaskFrom blocks p (q - 1) r
-  mask_next {x} {r} l n lo hi e =
+  pub mask_next : {x r : ℕ} (t : Bool) → 0 < q → x ≡ bool_byte t → (t ≡ false → Parted blocks p (q - 1)) → bit 0 r ≡ x → ((i : ℕ) → bit (i + 1) r ≡ bit i w) → r ≡ 2 * w + x → MaskFrom blocks p (q - 1) r
+  mask_next {x} {r} t l b n lo hi e =
       record {
         high = omega (arith, m.high);
-        small = let d : 24 - (q - 1) ≡ suc (24 - q) = omega (arith, m.high) in omega (arith, m.small, n.small, pow-suc 2 (24 - q), ap (λ (k : ℕ). 2 ^ k) d);
+        small = let d : 24 - (q - 1) ≡ suc (24 - q) = omega (arith, m.high) in omega (arith, m.small, b, small_bit t, pow-suc 2 (24 - q), ap (λ (k : ℕ). 2 ^ k) d);
         each = go;
       }
     where
       go : (i : ℕ) → q - 1 + i < 24 → bit i r ≡ 0 → Parted blocks p (q - 1 + i)
-      go zero b z = let d : q - 1 ≡ q - 1 + 0 = omega arith in subst (Parted blocks p) d (n.parted (sym lo ∙ z))
+      go zero l z = let d : q - 1 ≡ q - 1 + 0 = omega arith in subst (Parted blocks p) d (n (zero_bit t (sym (lo ∙ b) ∙ z)))
       go (suc i) b z =
           let d : q + i ≡ q - 1 + suc i = omega arith in
           let j : i + 1 ≡ suc i = omega arith in

@@ -15,7 +15,7 @@ use Rattle.bits.specs.inner.Bits.{bit, Lowest, WithoutLowest}
 use Rattle.bits.proofs.Counting.{bit_zero, bit_small, bit_set, bit_low}
 use Rattle.seams.specs.Seam.{Shared}
 use Rattle.seams.specs.inner.Reach.{Touched, Meeting}
-use Rattle.seams.proofs.Joining.{First, by_meeting, meeting_by, by_shut}
+use Rattle.seams.proofs.Joining.{First, Shut, by_meeting, meeting_by, by_shut}
 use Rattle.seams.proofs.Seams.{Sharing, shared_of, turned, unshared, of_touched}
 use Rattle.neighbours.specs.inner.Rectangles.{Parted}
 use Rattle.seam_search.specs.inner.Masks.{Masks, TouchedIn, Numbers, Later, JoinedAmong, SharedAfter}
@@ -95,15 +95,14 @@ module _ (mask touched w : ℕ) (both : (i : ℕ) → bit i w ≡ min (bit i mas
     pub after_none : w ≡ 0 → Tells (SharedAfter blocks mask touched p a b) false
     after_none e = tells_no (λ h. absurd (omega (arith, in_both h.q h.masked h.marked, ap (bit h.q) e, bit_zero h.q)))
 
-    module _ {t : Bool} {l r u v : ℤ} (f : First blocks a b p t l r u v) where
-      pub after_joined : {t' : Bool} → Later p touched → t ≡ true → Tells (JoinedAmong blocks w a b l r u v) t' → Tells (SharedAfter blocks mask touched p a b) t'
-      after_joined n e =
-          tells_as
-          (λ j. let s = j.marked in record { q = j.k; later = n.after j.k (marked j.k s); masked = masked j.k s; marked = marked j.k s; shared = by_meeting _ _ _ f e j.met })
-          (λ h. record { k = h.q; marked = in_both h.q h.masked h.marked; met = meeting_by _ _ _ f h.shared })
+    pub after_joined : {l r u v : ℤ} {t : Bool} → First blocks a b p l r u v → Later p touched → Tells (JoinedAmong blocks w a b l r u v) t → Tells (SharedAfter blocks mask touched p a b) t
+    after_joined f n =
+        tells_as
+        (λ j. let s = j.marked in record { q = j.k; later = n.after j.k (marked j.k s); masked = masked j.k s; marked = marked j.k s; shared = by_meeting _ _ _ f j.met })
+        (λ h. record { k = h.q; marked = in_both h.q h.masked h.marked; met = meeting_by _ _ _ f h.shared })
 
-pub after_shut : {blocks : List ℕ} {mask touched p : ℕ} {a b : Point} {t : Bool} {l r u v : ℤ} → First blocks a b p t l r u v → t ≡ false → Tells (SharedAfter blocks mask touched p a b) false
-after_shut f e = tells_no (λ h. by_shut _ _ _ f e h.shared)
+pub after_shut : {blocks : List ℕ} {mask touched p : ℕ} {a b : Point} → Shut blocks a b p → Tells (SharedAfter blocks mask touched p a b) false
+after_shut f = tells_no (λ h. by_shut _ _ _ f h.shared)
 
 -- ---- all pairs
 parted_unshared : {blocks : List ℕ} {a b : Point} {p q u s : ℕ} → Parted blocks p q → (p ≡ q → ⊥) → Sharing blocks a b p q u s → ⊥

@@ -1,17 +1,13 @@
+use Prim.Native.Nat.{ℕ, ◌<◌}
+use mathlib.Core.Path.{◌≡◌}
+use mathlib.Core.Bool.{true}
 use native.Mathlib.Omega.{arith}
-use borrow.Author.Count.{below_more}
-use Rattle.neighbours.proofs.Answers.{unsaid}
+use Rattle.std.proofs.Common.{rules, IsTrue, EachIndex, slice_index, ◌↔◌}
+use Rattle.geometry.specs.Words.{word}
 use Rattle.seam_search.proofs.Marking.{zeros_apart}
 use Rattle.seam_search.proofs.all_apart.Goals as goal
 
-pub loop-p-init : goal.loop-p-init
-loop-p-init c k h = absurd (omega arith)
-
-pub returns-then-masks-p-ne0 : goal.returns-then-masks-p-ne0
-returns-then-masks-p-ne0 c = unsaid
-
-pub loop-p-preserved : goal.loop-p-preserved
-loop-p-preserved c = below_more _ _ c.loop-p.invariant c.if-masks-p-ne0.false
-
 pub returns : goal.returns
-returns c e = zeros_apart c.requires (λ k l. c.loop-p.invariant k (omega arith))
+returns c e =
+    let h : IsTrue c.all.result ↔ EachIndex c.args.masks.now (λ k. slice_index c.args.masks.now k ≡ 0) = search rules in
+    zeros_apart c.requires (λ k l. h.0 e k (omega (arith, c.requires.sized)))

@@ -3,25 +3,22 @@ use Rattle.std.specs.Prelude.{◌≡◌, List, ◌⊎◌, ℕ, ◌+◌, ◌<◌,
 use Rattle.geometry.specs.Words.{Point, word, block_words}
 use Rattle.bits.specs.inner.Bits.{bit}
 use Rattle.seams.specs.inner.Reach.{Touched, Meeting, SharedBy}
-use Rattle.neighbours.specs.inner.Rectangles.{Parted, Lows, Highs}
+use Rattle.neighbours.specs.inner.Rectangles.{Parted, Bounds}
+use Rattle.neighbours.specs.declared.End.TheVariants.{Least, Greatest}
+use Rattle.seam_search.specs.declared.Boxes.{Boxes}
 
 -- the least and the greatest coordinates of every block
-pub record Boxes (blocks west east south north : List ℕ) : Type 0 where
-  pub wests : Lows blocks 1 west
-  pub easts : Highs blocks 1 east
-  pub souths : Lows blocks 2 south
-  pub norths : Highs blocks 2 north
+pub record Boxed (blocks : List ℕ) (boxes : Boxes) : Type 0 where
+  pub wests : Bounds blocks 1 Least boxes.west
+  pub easts : Bounds blocks 1 Greatest boxes.east
+  pub souths : Bounds blocks 2 Least boxes.south
+  pub norths : Bounds blocks 2 Greatest boxes.north
 
 -- one of two blocks ends below the other along a coordinate
 abbrev pub Divided : List ℕ → List ℕ → ℕ → ℕ → Type 0
 Divided lows highs p q = (word highs p < word lows q) ⊎ (word highs q < word lows p)
 
--- a bit that is 0 only where blocks p and q are one block or share no place
-pub record MaskBit (blocks : List ℕ) (p q x : ℕ) : Type 0 where
-  pub small : x < 2
-  pub parted : x ≡ 0 → Parted blocks p q
-
--- the same for each q below 24, as the bits of one word
+-- bit q of w is 0 only where blocks p and q are one block or share no place
 pub record Mask (blocks : List ℕ) (p w : ℕ) : Type 0 where
   pub each : (q : ℕ) → q < 24 → bit q w ≡ 0 → Parted blocks p q
 

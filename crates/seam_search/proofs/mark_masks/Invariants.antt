@@ -1,10 +1,6 @@
-use Prim.Native.Nat.{◌-◌}
 use Rattle.neighbours.specs.inner.Rectangles.{Listed}
 use Rattle.seam_search.specs.inner.Masks.{Mask}
-use Rattle.seam_search.proofs.mark_each.Given as goal
+use Rattle.seam_search.proofs.mark_masks.Given as goal
 
 abbrev pub invariant-loop-p : goal.invariant-loop-p
 invariant-loop-p l = Listed (Mask l.blocks) l.masks l.p
-
-abbrev pub decreases-loop-p : goal.decreases-loop-p
-decreases-loop-p l = 24 - l.p
