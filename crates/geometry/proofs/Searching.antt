@@ -1,8 +1,8 @@
 -- The search for the lowest block that hides a segment: what is known of one block after k of its sides, and of the blocks passed.
-use mathlib.Core.Path.{◌≡◌, refl, sym, ap, ◌∙◌, subst}
+use mathlib.Core.Path.{◌≡◌, refl, ap, ◌∙◌, subst}
 use mathlib.Core.Bool.{Bool}
 use mathlib.Core.List.{List}
-use Prim.Native.Nat.{ℕ, suc, ◌+◌, ◌-◌, ◌*◌, ◌<◌, ◌≤◌}
+use Prim.Native.Nat.{ℕ, ◌+◌, ◌-◌, ◌*◌, ◌<◌, ◌≤◌}
 use native.Mathlib.Decide.{dec_lt}
 use native.Mathlib.Numerals.{add-one}
 use native.Mathlib.Omega.{arith}
@@ -46,9 +46,6 @@ part t n = take ((17 * n + 17) - 17 * n) (drop (17 * n) t)
 
 pub part_bounded : (t : List ℕ) (n : ℕ) → Bounded t → n < 24 → BoundedRecord (part t n)
 part_bounded t n b h = rw (part_is t n) (record_bounded t n b h)
-
-pub part_overlaps : (t : List ℕ) (n : ℕ) (a b : Point) {c : Bool} → Tells (Overlaps (corners (part t n)) a b) c → Tells (Overlaps (corners (block_words t n)) a b) c
-part_overlaps t n a b h = rw (part_is t n) at h
 
 -- the block's turns, of both ends
 module _ (ws : List ℕ) (a b : Point) where

@@ -1,9 +1,9 @@
 -- Which way X lies of the side from P to Q: positive to the left.
 use mathlib.Core.Path.{◌≡◌}
-use Prim.Native.Nat.{ℕ, ◌+◌, ◌*◌}
+use Prim.Native.Nat.{ℕ}
 use native.Mathlib.Omega.{arith}
 use lib.IntN.{ℤ, pos, ◌+ℤ◌, ◌-ℤ◌, ◌*ℤ◌}
-use Rattle.geometry.proofs.Signed.{◌⊖◌, diff, undiff, ⊖-eq, ring}
+use Rattle.geometry.proofs.Signed.{diff, undiff, ⊖-eq, ring}
 
 abbrev pub crossℤ : (px py qx qy dx dy : ℤ) → ℤ
 crossℤ px py qx qy dx dy = (qx -ℤ px) *ℤ (dy -ℤ py) -ℤ (qy -ℤ py) *ℤ (dx -ℤ px)

@@ -1,9 +1,9 @@
 -- What the comparisons of block records answer.
-use mathlib.Core.Path.{◌≡◌, refl, sym, ap, ◌∙◌, subst}
-use mathlib.Core.Bool.{Bool, true, false, not, true≢false}
+use mathlib.Core.Path.{◌≡◌, sym, ap, ◌∙◌, subst}
+use mathlib.Core.Bool.{true}
 use mathlib.Core.List.{List}
 use mathlib.Core.Logic.{◌⊎◌, ⊎_elim}
-use Prim.Native.Nat.{ℕ, ◌+◌, ◌*◌, ◌<◌, ◌≤◌, max, min}
+use Prim.Native.Nat.{ℕ, ◌+◌, ◌*◌, ◌<◌, ◌≤◌}
 use native.Mathlib.Nat.{min-le_left, min-le_right}
 use native.Mathlib.Decide.{dec_lt}
 use native.Mathlib.Omega.{arith}
@@ -14,7 +14,6 @@ use lib.ListN.{length, set, length-set}
 use lib.Seq.{get_or-set_same, get_or-set_other}
 use Rattle.geometry.specs.Words.{Point, word, block_words, corners}
 use Rattle.geometry.specs.Obstruction.{corner_at, side_turn}
-use Rattle.geometry.specs.inner.Bounds.{BoundedRecord}
 use Rattle.geometry.proofs.Bound.{test_yes}
 use Rattle.geometry.proofs.Corners.{places_length, corner_is}
 use Rattle.geometry.proofs.Searching.{part, part_is}
@@ -23,10 +22,6 @@ use Rattle.neighbours.specs.inner.Rectangles.{Solid, Further, Reaches, Leaves, E
 use Rattle.neighbours.specs.declared.End.{End}
 use Rattle.neighbours.specs.declared.End.TheVariants.{Least, Greatest}
 use Rattle.neighbours.proofs.Enclosing.{Encloses, encloses_east, encloses_north, divided}
-
--- a test that answers no promises nothing
-pub unsaid : {P : Type 0} → false ≡ true → P
-unsaid e = absurd (true≢false (sym e))
 
 -- ---- solid records
 pub solid_told : (ws : List ℕ) (p : Point) {z : ℤ} → 3 ≤ word ws 0 → p ≡ corner_at (corners ws) 2 → z ≡ side_turn (corners ws) p 0 → lt_z (pos 0) z ≡ true → Solid (corners ws)
@@ -89,13 +84,7 @@ divided_east s t = ⊎_elim (λ b. apart_east s t b) (λ b. apart_sym (apart_eas
 pub divided_north : {ws vs : List ℕ} → Solid (corners ws) → Solid (corners vs) → Beyond ws vs 2 ⊎ Beyond vs ws 2 → Apart ws vs
 divided_north s t = ⊎_elim (λ b. apart_north s t b) (λ b. apart_sym (apart_north t s b))
 
--- ---- the bound of an end
-pub low_solid : {ws : List ℕ} {i m : ℕ} → m ≤ 65535 → Solid (corners ws) → Leaves ws i m → Low ws i m
-low_solid h s r = record { small = h; solid = λ l p. s; bound = λ l p. r }
-
-pub high_solid : {ws : List ℕ} {i m : ℕ} → Solid (corners ws) → Reaches ws i m → High ws i m
-high_solid s r = record { solid = λ l p. s; bound = λ l p. r }
-
+-- ---- the bounds of two records
 module _ {ws vs : List ℕ} {hi lo : ℕ} (g : hi < lo) where
   pub bounds_east : High ws 1 hi → Low vs 1 lo → Apart ws vs
   bounds_east h l =
@@ -112,9 +101,6 @@ module _ {ws vs : List ℕ} {hi lo : ℕ} (g : hi < lo) where
 -- ---- blocks of the table
 pub parted_words : (blocks : List ℕ) (p q : ℕ) → Apart (block_words blocks p) (block_words blocks q) → Parted blocks p q
 parted_words blocks p q a = record { parted = λ n e d h f g. absurd (a.apart n e d h f.stands g.stands f.covers g.covers) }
-
-pub parted_apart : (blocks : List ℕ) (p q : ℕ) → Apart (part blocks p) (part blocks q) → Parted blocks p q
-parted_apart blocks p q a = parted_words blocks p q (rw (part_is blocks p, part_is blocks q) at a)
 
 pub bound_part : (blocks : List ℕ) (p i : ℕ) (end : End) (m : ℕ) → Bound (part blocks p) i end m → Bound (block_words blocks p) i end m
 bound_part blocks p i Least m l = rw (part_is blocks p) at l

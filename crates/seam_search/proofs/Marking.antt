@@ -6,15 +6,14 @@ use mathlib.Core.Logic.{⊎_elim}
 use Prim.Native.Nat.{ℕ, zero, suc, ◌+◌, ◌*◌, ◌-◌, ◌^◌, ◌<◌, ◌≤◌}
 use native.Mathlib.Nat.{pow-suc}
 use native.Mathlib.Omega.{arith}
-use lib.Pow.{pow_mono}
 use mir.Val.{bool_byte}
 use Rattle.geometry.specs.Words.{word}
 use Rattle.bits.specs.inner.Bits.{bit}
 use Rattle.bits.proofs.Counting.{bit_zero}
 use Rattle.seams.specs.Seam.{Disjoint}
-use Rattle.neighbours.specs.inner.Rectangles.{Parted, Listed}
+use Rattle.neighbours.specs.inner.Rectangles.{Parted}
 use Rattle.neighbours.proofs.Answers.{parted_words, bounds_east, bounds_north}
-use Rattle.seam_search.specs.inner.Masks.{Boxed, Divided, Mask, Masks}
+use Rattle.seam_search.specs.inner.Masks.{Boxed, Divided, Masks}
 use Rattle.seam_search.specs.declared.Boxes.{Boxes}
 
 -- ---- by the rectangles of two blocks
@@ -44,9 +43,6 @@ pub record MaskFrom (blocks : List ℕ) (p q w : ℕ) : Type 0 where
   pub small : w < 2 ^ (24 - q)
   pub each : (i : ℕ) → q + i < 24 → bit i w ≡ 0 → Parted blocks p (q + i)
 
-pub mask_none : {blocks : List ℕ} {p : ℕ} → MaskFrom blocks p 24 0
-mask_none = record { high = omega arith; small = omega arith; each = λ i l. absurd (omega arith) }
-
 small_bit : (t : Bool) → bool_byte t < 2
 small_bit true = omega arith
 small_bit false = omega arith
@@ -56,9 +52,6 @@ zero_bit true e = absurd (omega (arith, e))
 zero_bit false e = refl
 
 module _ {blocks : List ℕ} {p q w : ℕ} (m : MaskFrom blocks p q w) where
-  pub mask_small : w < 9223372036854775808
-  mask_small = omega (arith, m.small, pow_mono {i = 24 - q} {j = 63} (omega arith))
-
   pub mask_next : {x r : ℕ} (t : Bool) → 0 < q → x ≡ bool_byte t → (t ≡ false → Parted blocks p (q - 1)) → bit 0 r ≡ x → ((i : ℕ) → bit (i + 1) r ≡ bit i w) → r ≡ 2 * w + x → MaskFrom blocks p (q - 1) r
   mask_next {x} {r} t l b n lo hi e =
       record {
@@ -74,12 +67,6 @@ module _ {blocks : List ℕ} {p q w : ℕ} (m : MaskFrom blocks p q w) where
           let j : i + 1 ≡ suc i = omega arith in
           subst (Parted blocks p) d (m.each i (omega arith) (sym (hi i) ∙ ap (λ (k : ℕ). bit k r) j ∙ z))
 
-  pub mask_all : q ≤ 0 → Mask blocks p w
-  mask_all z = record { each = λ k l e. let d : q + k ≡ k = omega arith in subst (Parted blocks p) d (m.each k (omega arith) e) }
-
 -- ---- all words
-pub masks_all : {blocks masks : List ℕ} → Listed (Mask blocks) masks 24 → Masks blocks masks
-masks_all m = record { sized = m.sized; each = λ p q l. (m.each p l).each q }
-
 pub zeros_apart : {blocks masks : List ℕ} → Masks blocks masks → ((k : ℕ) → k < 24 → word masks k ≡ 0) → Disjoint blocks
 zeros_apart m f n e d h p q x y = (m.each p q x.number y.number (ap (bit q) (f p x.number) ∙ bit_zero q)).parted n e d h x y

@@ -1,6 +1,6 @@
 -- The loops over blocks: what is kept of a segment meets a later block, and a block shares a point with a later one.
-use mathlib.Core.Path.{◌≡◌, sym, subst, ◌∙◌}
-use mathlib.Core.Bool.{Bool, true, false, true≢false}
+use mathlib.Core.Path.{◌≡◌, subst}
+use mathlib.Core.Bool.{Bool, true, false}
 use mathlib.Core.List.{List}
 use Prim.Native.Nat.{ℕ, ◌+◌, ◌<◌, ◌≤◌}
 use Rattle.std.specs.Prelude.{Option, Some, None, is_some}
@@ -31,26 +31,6 @@ module _ (blocks : List ℕ) (from : ℕ) (a b : Point) (l r p q : ℤ) where
   pub record MissedTo (n : ℕ) : Type 0 where
     pub after : from ≤ n
     pub each : (k : ℕ) → from ≤ k → k < n → Meeting (block_words blocks k) a b l r p q → ⊥
-
-  pub missed_none : MissedTo from
-  missed_none = record { after = omega arith; each = λ k x y. absurd (none k x y) }
-    where
-      none : (k : ℕ) → from ≤ k → k < from → ⊥
-      none k x y = omega arith
-
-  module _ {n : ℕ} (m : MissedTo n) where
-    pub missed_more : (Meeting (block_words blocks n) a b l r p q → ⊥) → MissedTo (n + 1)
-    missed_more f = record { after = omega (arith, m.after); each = λ k x y o. go k x y o (dec_lt k n) }
-      where
-        go : (k : ℕ) → from ≤ k → k < n + 1 → Meeting (block_words blocks k) a b l r p q → Dec (k < n) → ⊥
-        go k x y o (yes z) = m.each k x z o
-        go k x y o (no z) = let c : k ≡ n = omega arith in f (subst (λ (j : ℕ). Meeting (block_words blocks j) a b l r p q) c o)
-
-    pub joined_yes : n < 24 → Meeting (block_words blocks n) a b l r p q → Tells (Joined blocks from a b l r p q) true
-    joined_yes z h = tells_yes (record { k = n; after = m.after; number = z; met = h })
-
-    pub joined_no : 24 ≤ n → Tells (Joined blocks from a b l r p q) false
-    joined_no z = tells_no (λ j. m.each j.k j.after (omega (arith, j.number)) j.met)
 
 module _ (blocks : List ℕ) (a b : Point) where
   -- what the sides of block n leave of the whole segment
@@ -87,12 +67,6 @@ module _ (blocks : List ℕ) (a b : Point) where
   -- no block below n shares a point with a later one
   pub record UnsharedTo (n : ℕ) : Type 0 where
     pub each : (k : ℕ) → k < n → SharedFrom blocks k a b → ⊥
-
-  pub unshared_none : UnsharedTo 0
-  unshared_none = record { each = λ k l. absurd (none k l) }
-    where
-      none : (k : ℕ) → k < 0 → ⊥
-      none k x = omega arith
 
   pub unshared_more : {n : ℕ} → UnsharedTo n → (SharedFrom blocks n a b → ⊥) → UnsharedTo (n + 1)
   unshared_more {n} f g = record { each = λ k l s. go k l s (dec_lt k n) }

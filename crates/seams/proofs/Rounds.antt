@@ -1,18 +1,16 @@
 -- The two kept sides while the test goes round a block: one side more, every side, and whether a point is left between them.
-use mathlib.Core.Path.{◌≡◌, refl, sym}
-use mathlib.Core.Bool.{Bool, true, false, not, true≢false}
+use mathlib.Core.Path.{◌≡◌, refl}
+use mathlib.Core.Bool.{Bool, true, false, not}
 use mathlib.Core.Logic.{◌⊎◌, inl, inr, ⊎_elim}
 use mathlib.Core.List.{List}
 use Prim.Native.Nat.{ℕ, ◌+◌, ◌<◌, ◌≤◌}
 use native.Mathlib.Omega.{arith}
 use borrow.Author.Count.{below_more}
-use lib.Dec.{lit≤}
 use lib.IntN.{ℤ, pos, ◌*ℤ◌}
-use lib.Signed.{◌≤ℤ◌, ◌<ℤ◌, lt_z, le_z_yes, lt_z_yes, clash_ℤ}
+use lib.Signed.{◌≤ℤ◌, ◌<ℤ◌, le_z_yes, lt_z_yes, clash_ℤ}
 use Rattle.geometry.specs.Words.{Point, word, corners}
 use Rattle.geometry.specs.Obstruction.{side_turn}
 use Rattle.geometry.specs.inner.Sides.{Within}
-use Rattle.geometry.proofs.Bound.{within_pos, test_yes, test_no}
 use Rattle.geometry.proofs.Signed.{below_or_not, lt_le}
 use Rattle.seams.specs.inner.Reach.{On, Around, Touched, Both, Bounds, Ends, Kept, Narrower, Tightened, Common, Left}
 use Rattle.seams.proofs.Closed.{tighter, tighter_up, on_both, on_neither, on_first, on_last, meet_only, meet_if}
@@ -25,13 +23,6 @@ one = record { above = le_z_yes tt; apart = inr (lt_z_yes tt) }
 
 pub whole_ends : Ends (pos 1) (pos 1) (pos 1) (pos 1)
 whole_ends = record { low = one; up = one }
-
-pub whole_kept : Kept (pos 1) (pos 1) (pos 1) (pos 1)
-whole_kept =
-    record {
-      small = record { small_l = within_pos (lit≤ tt); small_r = within_pos (lit≤ tt); small_p = within_pos (lit≤ tt); small_q = within_pos (lit≤ tt) };
-      ends = whole_ends;
-    }
 
 pub whole_both : (u s : ℕ) → Both (pos 1) (pos 1) (pos 1) (pos 1) u s
 whole_both u s = let h = on_both u s (pos 1) (pos 1) (le_z_yes tt) (le_z_yes tt) in record { low = h; up = h }
@@ -162,9 +153,6 @@ module _ (ws : List ℕ) (a b : Point) (l r p q : ℤ) where
     going_gone f u s w n i = f (u, s, w, g.only u s n (λ j z. i.around j (omega arith)))
 
 -- the block is not reached
-pub unreached_absent : (ws : List ℕ) (a b : Point) (u s : ℕ) → word ws 0 ≡ 0 → Touched ws a b u s → ⊥
-unreached_absent ws a b u s e i = omega (arith, i.stands)
-
 pub unreached_behind : (ws : List ℕ) (a b : Point) {k u s : ℕ} {x y : ℤ} → k < word ws 0 → side_turn (corners ws) a k ≡ x → side_turn (corners ws) b k ≡ y
     → (x <ℤ pos 0) × (y <ℤ pos 0) → 1 ≤ u + s → Touched ws a b u s → ⊥
 unreached_behind ws a b {k} {u} {s} n ex ey z w i =

@@ -1,18 +1,17 @@
 -- What the tests of a straight answer.
-use mathlib.Core.Path.{◌≡◌, refl, sym, ap, ◌∙◌, subst}
+use mathlib.Core.Path.{◌≡◌, sym, ◌∙◌, subst}
 use mathlib.Core.Logic.{⊎_elim}
 use mathlib.Core.List.{List}
-use mathlib.Core.Bool.{Bool, true, false, not, true≢false}
+use mathlib.Core.Bool.{Bool, true, false, true≢false}
 use Prim.Native.Nat.{ℕ, ◌+◌, ◌*◌, ◌/◌, ◌%◌, ◌<◌, ◌≤◌}
 use native.Mathlib.Omega.{arith}
-use lib.IntN.{ℤ, pos}
-use lib.Signed.{◌<ℤ◌, lt_z, clash_ℤ}
+use lib.IntN.{pos}
+use lib.Signed.{◌<ℤ◌}
 use Rattle.lists.specs.inner.Tells.{Tells}
-use Rattle.lists.proofs.Telling.{tells_yes, tells_no, told}
+use Rattle.lists.proofs.Telling.{tells_yes, tells_no}
 use Rattle.geometry.specs.Words.{Point, point, word, block_words, corners}
 use Rattle.geometry.specs.Obstruction.{corner_at, side_turn, Obstructs, Hidden}
 use Rattle.geometry.specs.Convexity.{convex}
-use Rattle.geometry.proofs.Bound.{test_yes, test_no}
 use Rattle.geometry.proofs.Corners.{places_length, corner_is, corner_read}
 use Rattle.geometry.proofs.Obstructing.{hidden_sym}
 use Rattle.geometry.proofs.Searching.{block_word, part, part_is}
@@ -23,17 +22,12 @@ use Rattle.sight.specs.inner.Diagonals.{Crosses}
 use Rattle.sight.proofs.Cones.{next_is, enters_cone}
 use Rattle.sight.proofs.Diagonals.{Diagonal, diagonal_sym, crosses_hides}
 
-pub left_told : {z x : ℤ} → z ≡ x → Tells (pos 0 <ℤ x) (lt_z (pos 0) z)
-left_told {z} {x} e =
-    rw e (record { yes' = λ t. test_yes (pos 0) x t refl; no' = λ t p. clash_ℤ p (test_no (pos 0) x t refl) })
-
 -- a block record whose sides at corner k both have b on their left
-pub enters_record : (ws : List ℕ) (k j : ℕ) (b : Point) {s t : Bool} → convex (corners ws) ≡ true → k < word ws 0 → j < word ws 0 → (j + 1) % word ws 0 ≡ k
-    → Tells (pos 0 <ℤ side_turn (corners ws) b k) s → not s ≡ false → Tells (pos 0 <ℤ side_turn (corners ws) b j) t → t ≡ true
-    → Obstructs (corners ws) (corner_at (corners ws) k) b
-enters_record ws k j b c h l e s f t g =
+pub enters_record : (ws : List ℕ) (k j : ℕ) (b : Point) → convex (corners ws) ≡ true → k < word ws 0 → j < word ws 0 → (j + 1) % word ws 0 ≡ k
+    → pos 0 <ℤ side_turn (corners ws) b k → pos 0 <ℤ side_turn (corners ws) b j → Obstructs (corners ws) (corner_at (corners ws) k) b
+enters_record ws k j b c h l e s t =
     let m = places_length ws 1 (word ws 0) in
-    enters_cone (corners ws) k j b c (rw m h) (rw m l) (rw m e) (told s f) (t.yes' g)
+    enters_cone (corners ws) k j b c (rw m h) (rw m l) (rw m e) s t
 
 -- the same of mark v and its block
 module _ (blocks runs : List ℕ) (v : ℕ) (h : v < 192) where
@@ -57,9 +51,6 @@ module _ (blocks runs : List ℕ) (v : ℕ) (h : v < 192) where
         stands = omega arith;
         across = subst (λ (a : Point). Obstructs (corners (block_words blocks (v / 8))) a b) (corner_mark_lem m) p;
       }
-
-pub right_told : {z x : ℤ} → z ≡ x → lt_z z (pos 0) ≡ true → x <ℤ pos 0
-right_told {z} {x} e t = test_yes x (pos 0) t (ap (λ (y : ℤ). lt_z y (pos 0)) e)
 
 -- corners i and j of a block record, with one between them either way round
 apart_corners : (i j m : ℕ) → j < m → i + 2 ≤ j → j + 2 ≤ i + m → (j ≡ (i + 1) % m → ⊥) × (i ≡ (j + 1) % m → ⊥)
@@ -94,13 +85,6 @@ module _ (ws : List ℕ) (i j : ℕ) (c : convex (corners ws) ≡ true) (l : j <
         let Q = corner_read ws q j l qe qn in
         crosses_hides (corners ws) j i a b c (diagonal_sym two_corners) (rw (P, Q) at x)
 
-pub crossed_hides : (blocks : List ℕ) (n : ℕ) (a b : Point) → n < 24 → (0 < word (part blocks n) 0) × Obstructs (corners (part blocks n)) a b
-    → Tells ((n < 24) × Hidden blocks n a b) true
-crossed_hides blocks n a b l h = tells_yes (l, record { stands = rw (part_is blocks n) at h.0; across = rw (part_is blocks n) at h.1 })
-
-pub numbered : {P : Type 0} {n : ℕ} {t : Bool} → n < 24 → Tells P t → Tells ((n < 24) × P) t
-numbered l h = record { yes' = λ e. (l, h.yes' e); no' = λ e s. h.no' e s.1 }
-
 -- a block that hides the straight of two marks, found in each of three ways
 module _ (R : Records) (v u : ℕ) (t : Bool) where
   pub unseen_first : (b : Point) → b ≡ place_of R u → (t ≡ true → (v < 192) × Hidden R.blocks (v / 8) (place_of R v) b) → t ≡ true → Tells (ByPlaces R v u) false
@@ -109,9 +93,6 @@ module _ (R : Records) (v u : ℕ) (t : Bool) where
   pub unseen_second : (a : Point) → a ≡ place_of R v → (t ≡ true → (u < 192) × Hidden R.blocks (u / 8) (place_of R u) a) → t ≡ true → Tells (ByPlaces R v u) false
   unseen_second a e f g =
       tells_no (λ s. s.1.seen (u / 8) (omega (arith, (f g).0)) (hidden_sym R.blocks (u / 8) (place_of R u) (place_of R v) (rw e at (f g).1)))
-
-  pub unseen_block : (a b : Point) (n : ℕ) → a ≡ place_of R v → b ≡ place_of R u → Tells ((n < 24) × Hidden R.blocks n a b) t → t ≡ true → Tells (ByPlaces R v u) false
-  unseen_block a b n e o f g = tells_no (λ s. s.1.seen n (f.yes' g).0 (rw (e, o) at (f.yes' g).1))
 
 -- the byte of the straight
 pub seen_byte : (R : Records) (v u byte : ℕ) → PairIs R v u byte → byte ≡ 254 → Tells (ByPlaces R v u) true

@@ -13,7 +13,7 @@ ghost use Rattle.visibility.specs.Visibility.{ByPlaces};
 ghost use Rattle.sight.specs.inner.Sight.{Sound};
 ghost use Rattle.sight.specs.inner.Diagonals.{Apart, Crosses};
 
-use geometry::{Hider, Place};
+use geometry::Place;
 
 // The number of the corner before corner k, of m.
 fn before(k: usize, m: usize) -> usize
@@ -36,11 +36,7 @@ fn enters_at(words: &[u16], k: usize, b: Place) -> bool
     requires { (BoundedRecord words.now) × (convex (corners words.now) ≡ true) × (k < word words.now 0) × (InRange (point_of b)) }
     ensures { result ≡ true → Obstructs (corners words.now) (corner_at (corners words.now) k) (point_of b) }
 {
-    if !is_left(words, k, b) {
-        return false;
-    }
-    let j = before(k, words[0] as usize);
-    is_left(words, j, b)
+    is_left(words, k, b) && is_left(words, before(k, words[0] as usize), b)
 }
 
 // Whether the straight from the corner v to the place b goes into v's own block at once.
@@ -54,30 +50,21 @@ fn enters_own(blocks: &[u16], runs: &[u16], v: usize, b: Place) -> bool
     let n = v / 8;
     let words = &blocks[17 * n..17 * n + 17];
     let k = v % 8;
-    if words[0] as usize <= k {
-        return false;
-    }
-    enters_at(words, k, b)
+    k < words[0] as usize && enters_at(words, k, b)
 }
 
 // Whether x lies strictly right of the line from p to q and y strictly left.
 fn apart(p: Place, q: Place, x: Place, y: Place) -> bool
     ensures { result ≡ true → Apart (point_of p) (point_of q) (point_of x) (point_of y) }
 {
-    if geometry::turn(p, q, x) < 0 {
-        return 0 < geometry::turn(p, q, y);
-    }
-    false
+    geometry::turn(p, q, x) < 0 && 0 < geometry::turn(p, q, y)
 }
 
 // Whether the segment from a to b crosses the one from c, on its right, to d, on its left.
 fn crosses(c: Place, d: Place, a: Place, b: Place) -> bool
     ensures { result ≡ true → Crosses (point_of c) (point_of d) (point_of a) (point_of b) }
 {
-    if apart(a, b, c, d) {
-        return apart(c, d, b, a);
-    }
-    false
+    apart(a, b, c, d) && apart(c, d, b, a)
 }
 
 // Whether the segment from a to b crosses the diagonal between corners i and j of a convex block.
@@ -87,10 +74,7 @@ fn crosses_diagonal(words: &[u16], i: usize, j: usize, a: Place, b: Place) -> bo
 {
     let c = geometry::corner(words, i);
     let d = geometry::corner(words, j);
-    if crosses(c, d, a, b) {
-        return true;
-    }
-    crosses(d, c, a, b)
+    crosses(c, d, a, b) || crosses(d, c, a, b)
 }
 
 // Whether the segment from a to b crosses a diagonal that goes half way round a convex block, as most do that the block hides.
@@ -103,12 +87,10 @@ fn crosses_middle(words: &[u16], a: Place, b: Place) -> bool
         return false;
     }
     let h = m / 2;
-    let mut i = 0;
-    while i < h {
+    for i in 0..h {
         if crosses_diagonal(words, i, i + h, a, b) {
             return true;
         }
-        i += 1;
     }
     false
 }
@@ -121,13 +103,8 @@ fn hidden_by(blocks: &[u16], n: usize, a: Place, b: Place) -> bool
     if 24 <= n {
         return false;
     }
-    if crosses_middle(&blocks[17 * n..17 * n + 17], a, b) {
-        return true;
-    }
-    match geometry::lowest_hider(blocks, n, n + 1, a, b) {
-        Hider::At(k) => true,
-        Hider::Nothing => false,
-    }
+    crosses_middle(&blocks[17 * n..17 * n + 17], a, b)
+        || geometry::lowest_hider(blocks, n, n + 1, a, b).is_some()
 }
 
 // Whether the straight between mark v at a and mark u at b is clear, where the block that last hid a straight of v is asked first.
@@ -176,10 +153,7 @@ pub fn sees(
     ensures tells { Tells (ByPlaces (stored blocks.now runs.now) v u) result }
     ensures sized { length last.new ≡ 240 }
 {
-    if enters_own(blocks, runs, v, b) {
-        return false;
-    }
-    if enters_own(blocks, runs, u, a) {
+    if enters_own(blocks, runs, v, b) || enters_own(blocks, runs, u, a) {
         return false;
     }
     unhidden(blocks, runs, near, last, v, a, u, b)

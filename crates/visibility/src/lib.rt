@@ -9,9 +9,9 @@ ghost use Rattle.tables.specs.Tables.{stored};
 ghost use Rattle.tables.specs.inner.Fit.{Fit};
 ghost use Rattle.lists.specs.inner.Tells.{Tells};
 ghost use Rattle.visibility.specs.Visibility.{Unhidden, Clear, PairIs};
-ghost use Rattle.visibility.specs.inner.Bytes.{StraightIs, MarkIs};
+ghost use Rattle.visibility.specs.inner.Bytes.{StraightIs};
 
-use geometry::{Hider, Place, lowest_hider};
+use geometry::{Place, lowest_hider};
 use tables::{is_present, place_of};
 
 // The byte of a straight that no block hides.
@@ -20,10 +20,7 @@ pub fn unhidden_byte(blocks: &[u16], near: &[u8], a: Place, b: Place) -> u8
     requires ends { (InRange (point_of a)) × (InRange (point_of b)) × (Unhidden blocks.now (point_of a) (point_of b)) }
     ensures { StraightIs blocks.now (point_of a) (point_of b) result }
 {
-    if seams::shared(blocks, near, a, b) {
-        return 253;
-    }
-    254
+    if seams::shared(blocks, near, a, b) { 253 } else { 254 }
 }
 
 // The byte of a straight between present marks at a and b.
@@ -33,8 +30,8 @@ fn straight_byte(blocks: &[u16], near: &[u8], a: Place, b: Place) -> u8
     ensures { StraightIs blocks.now (point_of a) (point_of b) result }
 {
     match lowest_hider(blocks, 0, 24, a, b) {
-        Hider::At(n) => n as u8,
-        Hider::Nothing => unhidden_byte(blocks, near, a, b),
+        Some(n) => n as u8,
+        None => unhidden_byte(blocks, near, a, b),
     }
 }
 
@@ -56,35 +53,15 @@ pub fn is_clear_place(blocks: &[u16], p: Place) -> bool
     is_clear(blocks, &every, p, p)
 }
 
-// The byte that the stored records require for mark i and mark j, which is known.
-fn byte_with(
-    blocks: &[u16],
-    runs: &[u16],
-    near: &[u8],
-    i: usize,
-    j: usize,
-    there: bool,
-    b: Place,
-) -> u8
-    requires { (Fit (stored blocks.now runs.now)) × (Near blocks.now near.now) × (i < 240) × (j < 240) × (MarkIs (stored blocks.now runs.now) j there (point_of b)) }
-    ensures { PairIs (stored blocks.now runs.now) i j result }
-{
-    if !there {
-        return 255;
-    }
-    if !is_present(blocks, runs, i) {
-        return 255;
-    }
-    let a = place_of(blocks, runs, i);
-    straight_byte(blocks, near, a, b)
-}
-
 // The byte that the stored records require for marks i and j.
 pub fn fresh_byte(blocks: &[u16], runs: &[u16], near: &[u8], i: usize, j: usize) -> u8
     requires { (Fit (stored blocks.now runs.now)) × (Near blocks.now near.now) × (i < 240) × (j < 240) }
     ensures { PairIs (stored blocks.now runs.now) i j result }
 {
-    let there = is_present(blocks, runs, j);
+    if !is_present(blocks, runs, j) || !is_present(blocks, runs, i) {
+        return 255;
+    }
+    let a = place_of(blocks, runs, i);
     let b = place_of(blocks, runs, j);
-    byte_with(blocks, runs, near, i, j, there, b)
+    straight_byte(blocks, near, a, b)
 }

@@ -1,5 +1,4 @@
-use native.Mathlib.Omega.{arith}
-use Rattle.lists.proofs.Below.{all_none, all_next, all_done, all_failed, by_call}
+use Rattle.lists.proofs.Below.{all_none, all_next, all_failed, by_call}
 use Rattle.geometry.proofs.all_left.Goals as goal
 
 pub loop-l-init : goal.loop-l-init

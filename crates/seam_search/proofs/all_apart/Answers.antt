@@ -1,9 +1,6 @@
-use Prim.Native.Nat.{ℕ, ◌<◌}
 use mathlib.Core.Path.{◌≡◌}
-use mathlib.Core.Bool.{true}
 use native.Mathlib.Omega.{arith}
 use Rattle.std.proofs.Common.{rules, IsTrue, EachIndex, slice_index, ◌↔◌}
-use Rattle.geometry.specs.Words.{word}
 use Rattle.seam_search.proofs.Marking.{zeros_apart}
 use Rattle.seam_search.proofs.all_apart.Goals as goal
 

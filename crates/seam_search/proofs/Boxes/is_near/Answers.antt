@@ -1,6 +1,6 @@
-use mathlib.Core.Bool.{true≢false, not, true}
+use mathlib.Core.Bool.{true}
 use mathlib.Core.Path.{◌≡◌, sym, ◌∙◌}
-use borrow.Author.Tests.{eqb-true, eq-eqb, not-false}
+use borrow.Author.Tests.{not-false}
 use Rattle.seam_search.proofs.Marking.{one_parted, divided_east, divided_north}
 use Rattle.seam_search.proofs.Boxes.is_near.Goals as goal
 use Rattle.seam_search.proofs.Boxes.is_near.Goals.{then-p-q, else-p-q, then-is_divided, else-is_divided}

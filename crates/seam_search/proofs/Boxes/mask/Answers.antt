@@ -1,4 +1,3 @@
-use native.Mathlib.Omega.{arith}
 use Rattle.seam_search.proofs.Marking.{mask_next}
 use Rattle.seam_search.proofs.Boxes.mask.Goals as goal
 
