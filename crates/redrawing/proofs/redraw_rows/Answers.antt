@@ -6,7 +6,7 @@ use Rattle.redrawing.proofs.Rows.{row_end, row_lent, rows_none, rows_next, rows_
 use Rattle.redrawing.proofs.redraw_rows.Goals as goal
 
 pub loop-j-init : goal.loop-j-init
-loop-j-init c = (sym tri_zero, omega arith, search rows_none)
+loop-j-init c = (sym tri_zero, search rows_none)
 
 pub overflow_add-start : goal.overflow_add-start
 overflow_add-start c = let l = c.loop-j in omega (arith, row_end l.start l.j l.invariant.0 (omega arith))
@@ -24,7 +24,7 @@ pub overflow_add-start-in-loop-j : goal.overflow_add-start-in-loop-j
 overflow_add-start-in-loop-j c = let l = c.loop-j in omega (arith, row_end l.start l.j l.invariant.0 (omega arith))
 
 pub loop-j-preserved : goal.loop-j-preserved
-loop-j-preserved c = (omega (arith, tri_next c.loop-j.j), omega arith, search rows_next)
+loop-j-preserved c = (omega (arith, tri_next c.loop-j.j), search rows_next)
 
 pub returns : goal.returns
 returns c = search rows_all
