@@ -1,6 +1,6 @@
 -- Words of corners, written one after the other, and those of one below a mark.
 use mathlib.Core.Path.{◌≡◌, sym, subst, ◌∙◌}
-use mathlib.Core.Bool.{Bool, true, false}
+use mathlib.Core.Bool.{true}
 use mathlib.Core.List.{List}
 use Prim.Native.Nat.{ℕ, ◌+◌, ◌*◌, ◌-◌, ◌/◌, ◌%◌, ◌<◌, ◌≤◌}
 use native.Mathlib.Decide.{dec_lt}
@@ -12,16 +12,8 @@ use Rattle.bits.specs.inner.Bits.{bit}
 use Rattle.bits.proofs.Counting.{bit_zero, bit_set}
 use Rattle.tables.specs.Tables.{is_corner}
 use Rattle.adjacency.specs.inner.Adjacent.{Shows}
-use Rattle.mark_rows.proofs.Words.{Part, part_whole, shows, shows_not}
+use Rattle.mark_rows.proofs.Words.{Part, part_whole, shows_not}
 use Rattle.corner_words.specs.inner.Corners.{LowBits, Lower, CornersOf, Lefts}
-
--- by a corner's presence
-module _ (blocks : List ℕ) (u : ℕ) (t : Bool) (q : t ≡ is_corner blocks u) where
-  pub corner_there : t ≡ true → Shows (is_corner blocks u ≡ true) 1
-  corner_there h = shows _ (sym q ∙ h)
-
-  pub corner_absent : t ≡ false → Shows (is_corner blocks u ≡ true) 0
-  corner_absent h = shows_not _ (λ p. let g : false ≡ true = sym h ∙ q ∙ p in let z : ◌≡◌ {A = ℕ} 0 1 = cc in omega arith)
 
 -- one word more is written
 set_next : (At : ℕ → ℕ → Type 0) (s : List ℕ) (n w : ℕ) → n < length s → ((k : ℕ) → k < n → At k (word s k)) → At n w → (k : ℕ) → k < n + 1 → At k (word (set s n w) k)

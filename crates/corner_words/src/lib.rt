@@ -14,10 +14,7 @@ fn corner_bit(blocks: &[u16], u: usize) -> u64
     requires { length blocks.now ≡ 408 }
     ensures { Shows (is_corner blocks.now u ≡ true) result }
 {
-    if tables::is_corner(blocks, u) {
-        return 1;
-    }
-    0
+    u64::from(tables::is_corner(blocks, u))
 }
 
 // The corners 64 q to 64 q + 63 that are present.
@@ -26,9 +23,7 @@ fn corner_word(blocks: &[u16], q: usize) -> u64
     ensures { (i : ℕ) → i < 64 → Shows (is_corner blocks.now (64 * q + i) ≡ true) (bit i result) }
 {
     let mut w = 0;
-    let mut k = 64;
-    while 0 < k {
-        k -= 1;
+    for k in (0..64).rev() {
         w = bits::below(w, corner_bit(blocks, 64 * q + k));
     }
     w
@@ -39,10 +34,8 @@ pub fn mark_corners(blocks: &[u16], corners: &mut [u64])
     requires { (length blocks.now ≡ 408) × (length corners.old ≡ 3) }
     ensures { CornersOf blocks.now corners.new 3 }
 {
-    let mut q = 0;
-    while q < 3 {
-        corners[q] = corner_word(blocks, q);
-        q += 1;
+    for (q, word) in corners.iter_mut().enumerate() {
+        *word = corner_word(blocks, q);
     }
 }
 
@@ -75,7 +68,7 @@ fn left_bit(c: u8, b: u32) -> u64
     requires { b < 64 }
     ensures { Shows (bit b c ≡ 0) result }
 {
-    1 - bits::bit_at(c as u64, b)
+    1 - bits::bit_at(u64::from(c), b)
 }
 
 // The corners 64 q to 64 q + 63 that are strictly left of side b, by their codes.
@@ -84,9 +77,7 @@ fn left_word(codes: &[u8], b: usize, q: usize) -> u64
     ensures { (i : ℕ) → i < 64 → bit i result ≡ 0 → bit b (word codes.now (64 * q + i)) ≡ 1 }
 {
     let mut w = 0;
-    let mut k = 64;
-    while 0 < k {
-        k -= 1;
+    for k in (0..64).rev() {
         w = bits::below(w, left_bit(codes[64 * q + k], b as u32));
     }
     w
@@ -97,10 +88,8 @@ pub fn mark_lefts(codes: &[u8], lefts: &mut [u64])
     requires { (length codes.now ≡ 240) × (length lefts.old ≡ 24) }
     ensures { Lefts codes.now lefts.new 24 }
 {
-    let mut k = 0;
-    while k < 24 {
-        lefts[k] = left_word(codes, k / 3, k % 3);
-        k += 1;
+    for (k, word) in lefts.iter_mut().enumerate() {
+        *word = left_word(codes, k / 3, k % 3);
     }
 }
 
@@ -110,7 +99,7 @@ pub fn open_word(lefts: &[u64], c: u8, q: usize, w: u64) -> u64
     ensures { OpenWord lefts.now c q w result }
 {
     let mut r = w;
-    let mut rest = c as u64;
+    let mut rest = u64::from(c);
     while 0 < rest {
         let b = bits::lowest(rest) as usize;
         r = bits::both(r, lefts[3 * b + q]);
@@ -140,9 +129,7 @@ pub fn mirror(rows: &mut [u64])
     requires { LowerOnly rows.old }
     ensures { Mirrored rows.old rows.new }
 {
-    let mut k = 0;
-    while k < 576 {
+    for k in 0..576 {
         mirror_word(rows, k);
-        k += 1;
     }
 }

@@ -1,5 +1,4 @@
 -- The loop keeps: the bits of w say which of the corners from 64 q + k on are present.
-use mathlib.Core.Bool.{true}
 use native.Mathlib.Omega.{arith}
 use Rattle.mark_rows.proofs.Words.{part_none, part_small, part_next, part_whole}
 use Rattle.corner_words.proofs.corner_word.Goals as goal

@@ -6,6 +6,3 @@ use Rattle.corner_words.proofs.left_word.Given as goal
 
 abbrev pub invariant-loop-k : goal.invariant-loop-k
 invariant-loop-k l = Part (λ u. bit l.b (word l.codes u) ≡ 0) l.q l.k l.w
-
-abbrev pub decreases-loop-k : goal.decreases-loop-k
-decreases-loop-k l = l.k
