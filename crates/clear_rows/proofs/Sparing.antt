@@ -7,12 +7,15 @@ use native.Mathlib.Decide.{ℕ_discrete}
 use native.Mathlib.Omega.{arith}
 use lib.Dec.{eqb}
 use lib.ListN.{length, take, drop}
-use borrow.Author.Tests.{not-true, not-false, eqb-true, eqb-false}
+use borrow.Author.Tests.{not-true, not-false, eqb-true}
+use denote.Enum.Bare.{sameb}
+use Rattle.codes.specs.contracts.Meeting.{the_type}
+use Rattle.codes.specs.declared.Meeting.{Meeting}
+use Rattle.codes.specs.declared.Meeting.TheVariants.{Misses, Touches, Hides}
 use Rattle.lists.specs.Lists.{all_below}
 use Rattle.lists.specs.inner.Tells.{Tells}
 use Rattle.lists.proofs.Below.{all_at}
 use Rattle.geometry.specs.Words.{Point, word, block_words, corners}
-use Rattle.geometry.specs.inner.Bounds.{InRange}
 use Rattle.geometry.proofs.Searching.{part_is}
 use Rattle.geometry.proofs.Obstructing.{obstructs_sym}
 use Rattle.bits.specs.inner.Bits.{bit}
@@ -24,8 +27,8 @@ use Rattle.tables.specs.Tables.{Records, stored, present, place_of}
 use Rattle.tables.proofs.Marks.{present_corner}
 use Rattle.codes.specs.inner.Codes.{RightRecord, Upright, CodesAre, Hiding, Met}
 use Rattle.codes.proofs.Coded.{shared}
-use Rattle.code_table.specs.inner.Lines.{Marks, mark_at, PlacesOf}
-use Rattle.visibility.specs.Visibility.{Hides}
+use Rattle.code_table.specs.inner.Lines.{mark_at, PlacesOf}
+use Rattle.visibility.specs.Visibility.{Hides as HidesBlock}
 use Rattle.adjacency.specs.inner.Adjacent.{Shows}
 use Rattle.corner_words.specs.inner.Corners.{Lower, Lefts, OpenWord}
 use Rattle.clear_rows.specs.inner.Sparing.{Spared, Seen, WordFor, AllSay, Sifts, Changed, HidBy, InTwo, Against}
@@ -69,12 +72,16 @@ module _ (ws east north codes : List ℕ) (g : Against ws east north codes) (u v
     pub codes_from : (c : ℕ) → c ≡ word codes v → CodesAre ws c (word codes u) b a
     codes_from c e = record { right = g.right; first = e ∙ g.row.each v hv ∙ rw q; last = g.row.each u hu ∙ rw p }
 
-    pub hidden_told : (r : ℕ) → Met ws b a r → Tells (HidBy ws east north v u) (eqb r 2)
-    hidden_told r m =
-        record {
-          yes' = λ e. let h = m.hides (eqb-true r 2 e) in let k : Hiding ws a b = (h.0, obstructs_sym (corners ws) b a h.1) in rw (p, q) at k;
-          no' = λ e h. let k = rw (← p, ← q) at h in m.spares (eqb-false r 2 e) (k.0, obstructs_sym (corners ws) a b k.1);
-        }
+    hid : Hiding ws b a → HidBy ws east north v u
+    hid h = let k : Hiding ws a b = (h.0, obstructs_sym (corners ws) b a h.1) in rw (p, q) at k
+
+    spares : (Hiding ws b a → ⊥) → HidBy ws east north v u → ⊥
+    spares f h = let k = rw (← p, ← q) at h in f (k.0, obstructs_sym (corners ws) a b k.1)
+
+    pub hidden_told : (r : Meeting) → Met ws b a r → Tells (HidBy ws east north v u) (sameb the_type r Hides)
+    hidden_told Hides m = record { yes' = λ e. hid m; no' = λ e h. cc }
+    hidden_told Touches m = record { yes' = λ e. cc; no' = λ e. spares m }
+    hidden_told Misses m = record { yes' = λ e. cc; no' = λ e. spares m.0 }
 
   -- a side that neither end is strictly left of
   pub side_spares : (b : ℕ) → bit b (word codes u) ≡ 1 → bit b (word codes v) ≡ 1 → HidBy ws east north v u → ⊥
@@ -109,16 +116,16 @@ pub part_right : (blocks runs : List ℕ) (n : ℕ) → Upright (stored blocks r
 part_right blocks runs n u h = rw (part_is blocks n) (u.each n h)
 
 module _ (R : Records) (east north : List ℕ) (p : PlacesOf R east north) where
-  hides_as : (n v u : ℕ) → v < 240 → u < 240 → Hides R n u v → HidBy (block_words R.blocks n) east north v u
+  hides_as : (n v u : ℕ) → v < 240 → u < 240 → HidesBlock R n u v → HidBy (block_words R.blocks n) east north v u
   hides_as n v u hv hu h = rw (p.each u hu, p.each v hv) (h.stands, h.across)
 
-  as_hides : (n v u : ℕ) → v < 240 → u < 240 → HidBy (block_words R.blocks n) east north v u → Hides R n u v
+  as_hides : (n v u : ℕ) → v < 240 → u < 240 → HidBy (block_words R.blocks n) east north v u → HidesBlock R n u v
   as_hides n v u hv hu h = let g = rw (p.each u hu, p.each v hv) at h in record { stands = g.0; across = g.1 }
 
   more : (n v u : ℕ) → v < 240 → u < 240 → Spared R n v u → (HidBy (block_words R.blocks n) east north v u → ⊥) → Spared R (n + 1) v u
   more n v u hv hu s f = record { lower = s.lower; there = s.there; seen = λ k l. go k l (ℕ_discrete k n) }
     where
-      go : (k : ℕ) → k < n + 1 → Dec (k ≡ n) → Hides R k u v → ⊥
+      go : (k : ℕ) → k < n + 1 → Dec (k ≡ n) → HidesBlock R k u v → ⊥
       go k l (yes e) h = f (hides_as n v u hv hu (rw e at h))
       go k l (no e) h = s.seen k (omega arith) h
 
@@ -145,9 +152,6 @@ all_ones = refl
 pub touched_every : (blocks masks : List ℕ) (a b : Point) → TouchedIn blocks masks a b 16777215
 touched_every blocks masks a b =
     record { each = λ n h e. absurd (omega (arith, e, eqb-true (bit n 16777215) 1 (all_at (λ n. eqb (bit n 16777215) 1) 24 n all_ones h))) }
-
-pub mark_in_range : (east north : List ℕ) (v : ℕ) (p : Point) → Marks east north → v < 240 → p ≡ mark_at east north v → InRange p
-mark_in_range east north v p m h e = rw e (record { east = m.east_small v h; north = m.north_small v h })
 
 pub shared_told : (blocks east north : List ℕ) (v u : ℕ) (a b : Point) (t : Bool) → a ≡ mark_at east north u → b ≡ mark_at east north v → Tells (Shared blocks a b) t → Tells (InTwo blocks east north v u) t
 shared_told blocks east north v u a b t p q h = rw (p, q) at h

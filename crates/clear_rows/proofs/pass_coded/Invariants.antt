@@ -1,9 +1,5 @@
-use Prim.Native.Nat.{◌-◌}
 use Rattle.clear_rows.specs.inner.Sparing.{Sifts, Changed, HidBy}
 use Rattle.clear_rows.proofs.pass_coded.Given as goal
 
 abbrev pub invariant-loop-k : goal.invariant-loop-k
-invariant-loop-k l = Changed (Sifts (HidBy l.words l.east l.north)) l.initial.rows l.rows l.k
-
-abbrev pub decreases-loop-k : goal.decreases-loop-k
-decreases-loop-k l = 720 - l.k
+invariant-loop-k l = Changed (Sifts (HidBy l.words l.places.east l.places.north)) l.initial.rows l.rows l.k

@@ -19,7 +19,7 @@ overflow_add-u c = omega (arith, c.lowest-i.ensures.within)
 
 pub meets-met-requires : goal.meets-met-requires
 meets-met-requires c =
-    codes_from _ _ _ _ c.requires.0 _ _ (omega (arith, c.lowest-i.ensures.within, c.requires.3)) c.requires.2 _ _ c.mark_place-a.ensures c.mark_place-b.ensures _ refl
+    codes_from _ _ _ _ c.requires.0 _ _ (omega (arith, c.lowest-i.ensures.within, c.requires.3)) c.requires.2 _ _ c.at-a.ensures c.at-b.ensures _ refl
 
 pub loop-rest-smaller : goal.loop-rest-smaller
 loop-rest-smaller c = c.without_lowest-rest.ensures.fewer
@@ -27,8 +27,8 @@ loop-rest-smaller c = c.without_lowest-rest.ensures.fewer
 pub loop-rest-preserved : goal.loop-rest-preserved
 loop-rest-preserved c =
     sifting_next c.loop-rest.invariant c.lowest-i.ensures c.without_lowest-rest.ensures
-    (hidden_told _ _ _ _ c.requires.0 _ _ (omega (arith, c.lowest-i.ensures.within, c.requires.3)) c.requires.2 _ _ c.mark_place-a.ensures c.mark_place-b.ensures _ c.meets-met.ensures)
-    c.without_if-r.ensures
+    (hidden_told _ _ _ _ c.requires.0 _ _ (omega (arith, c.lowest-i.ensures.within, c.requires.3)) c.requires.2 _ _ c.at-a.ensures c.at-b.ensures _ c.meets-met.ensures)
+    (rw c.eq.ensures at c.without_if-r.ensures)
 
 pub returns : goal.returns
 returns c = sifting_all c.loop-rest.invariant (omega arith)

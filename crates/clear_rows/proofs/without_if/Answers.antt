@@ -4,5 +4,5 @@ use Rattle.clear_rows.proofs.without_if.Goals as goal
 pub returns-then-t : goal.returns-then-t
 returns-then-t c = search without_yes
 
-pub returns : goal.returns
-returns c = search without_no
+pub returns-else-t : goal.returns-else-t
+returns-else-t c = search without_no
