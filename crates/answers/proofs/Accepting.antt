@@ -17,7 +17,7 @@ use Rattle.book.specs.Questions.{first_no, lengths_right}
 use Rattle.book.specs.Book.{Edit, move_block, target, questions, written}
 use Rattle.book.specs.Edits.{book_of, answer_over, Edited, Called}
 use Rattle.book.proofs.Questions.{Sized, sized_of, first_yes}
-use Rattle.answers.proofs.Answers.{passed, some}
+use Rattle.answers.proofs.Answers.{passed, not_none}
 
 -- what an accepted edit knows of the tables
 pub record Ready (T : Tables) : Type 0 where
@@ -27,7 +27,7 @@ pub record Ready (T : Tables) : Type 0 where
 
 module _ (T : Tables) (e : Edit) where
   pub refused : {A : Type 0} (r : Result A Refusal) (x : Refusal) → IsErr r × IsErrAnd r (λ y. y ≡ x) → number_of x ≡ answer_over T e → Called e T (answer_of r) T
-  refused r x h f = record { answer = passed r x _ h f; refused = λ q. refl; done = λ z. absurd (some x (sym (passed r x _ h refl) ∙ z)) }
+  refused r x h f = record { answer = passed r x _ h f; refused = λ q. refl; done = λ z. absurd (not_none r x h z) }
 
   module _ (f : 0 ≡ answer_over T e) where
     granted : (lengths_right T ≡ true) × (records_right (records T) ≡ true) × (first_no (questions (book_of (records T)) e) ≡ 0)

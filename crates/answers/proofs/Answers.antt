@@ -48,6 +48,9 @@ passed (Err x) e v h f = ap question h.1 ∙ f
 pub some : (e : Refusal) → question e ≡ 0 → ⊥
 some e z = omega (arith, number_of_some e)
 
+pub not_none : {A : Type 0} (r : Result A Refusal) (e : Refusal) → IsErr r × IsErrAnd r (λ x. x ≡ e) → answer_of r ≡ 0 → ⊥
+not_none r e h z = some e (sym (passed r e _ h refl) ∙ z)
+
 -- ---- question 1
 module _ (b r p s t : List ℕ) where
   module _ (u : Bool) (e : u ≡ lengths_right (tables b r p s t)) (y : not u ≡ false) where

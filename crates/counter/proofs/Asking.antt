@@ -2,11 +2,11 @@
 use mathlib.Core.Path.{◌≡◌, refl, sym, ◌∙◌}
 use mathlib.Core.Bool.{Bool, true, false, not, ◌&&◌, and-eq-true_iff}
 use mathlib.Core.List.{List}
-use Prim.Native.Nat.{ℕ, ◌*◌, ◌≤◌, ◌<◌}
+use Prim.Native.Nat.{ℕ, ◌*◌, ◌<◌}
 use native.Mathlib.Omega.{arith}
 use lib.Dec.{eqb, ltb}
 use lib.ListN.{length}
-use borrow.Author.Tests.{eq-eqb, ne_eqb, lt-ltb, le-ltb, not-true, not-false, eqb-true, ltb-true}
+use borrow.Author.Tests.{eq-eqb, lt-ltb, not-false, eqb-true, ltb-true}
 use Rattle.geometry.specs.Words.{word, block_words, corners}
 use Rattle.tables.specs.Tables.{Records, stored}
 use Rattle.records.specs.Questions.{records_right}
@@ -32,22 +32,6 @@ module _ (blocks runs : List ℕ) (m : ℕ) (route : List ℕ) where
   abbrev A : ℕ
   A = quote_answer R m route
 
-  short : quote_lengths R route ≡ false → 1 ≡ A
-  unfolding quote_answer first_no
-  short e = rw e
-
-  pub answer_blocks : (length blocks ≡ 408 → ⊥) → 1 ≡ A
-  unfolding quote_lengths
-  answer_blocks n = short (rw (ne_eqb (length blocks) 408 n) refl)
-
-  pub answer_runs : length blocks ≡ 408 → (length runs ≡ 121 → ⊥) → 1 ≡ A
-  unfolding quote_lengths
-  answer_runs a n = short (rw (eq-eqb (length blocks) 408 a, ne_eqb (length runs) 121 n) refl)
-
-  pub answer_route : length blocks ≡ 408 → length runs ≡ 121 → (length route ≡ 197 → ⊥) → 1 ≡ A
-  unfolding quote_lengths
-  answer_route a b n = short (rw (eq-eqb (length blocks) 408 a, eq-eqb (length runs) 121 b, ne_eqb (length route) 197 n) refl)
-
   pub record Long : Type 0 where
     pub blocks_long : length blocks ≡ 408
     pub runs_long : length runs ≡ 121
@@ -70,21 +54,9 @@ module _ (blocks runs : List ℕ) (m : ℕ) (route : List ℕ) where
       long (eqb-true _ _ b.0) (eqb-true _ _ b.1) (eqb-true _ _ a.1)
 
   module _ (l : Long) where
-    pub answer_2 : (t : Bool) → t ≡ records_right R → not t ≡ true → 2 ≡ A
-    unfolding quote_answer first_no
-    answer_2 t e n = rw (lengths_yes l, sym e ∙ not-true t n)
-
     module _ (t : Bool) (e : t ≡ records_right R) (y : not t ≡ false) where
       right : records_right R ≡ true
       right = sym e ∙ not-false t y
-
-      pub answer_3 : 24 ≤ m → 3 ≡ A
-      unfolding quote_answer first_no
-      answer_3 h = rw (lengths_yes l, right, le-ltb m 24 h)
-
-      pub answer_5 : m < 24 → word runs (5 * m) ≡ 0 → 5 ≡ A
-      unfolding quote_answer first_no
-      answer_5 h z = rw (lengths_yes l, right, lt-ltb m 24 h, le-ltb 0 (word runs (5 * m)) (omega arith))
 
       pub answer_0 : m < 24 → (word runs (5 * m) ≡ 0 → ⊥) → 0 ≡ A
       unfolding quote_answer first_no
@@ -100,10 +72,10 @@ module _ (blocks runs : List ℕ) (m : ℕ) (route : List ℕ) where
     pub sized : length route ≡ 197
     pub present : 0 < word runs (5 * m)
 
-  pub accepted : (v : ℕ) → v ≡ A → v ≡ 0 → Accepted
+  pub accepted : 0 ≡ A → Accepted
   unfolding quote_answer
-  accepted v e z =
-      let a = first_yes 0 (quote_lengths R route) _ (sym e ∙ z) in
+  accepted e =
+      let a = first_yes 0 (quote_lengths R route) _ (sym e) in
       let b = first_yes 1 (records_right R) _ a.1 in
       let c = first_yes 2 (number_right m) _ b.1 in
       let d = first_yes 4 (ltb 0 (word runs (5 * m))) _ c.1 in

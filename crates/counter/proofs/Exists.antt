@@ -1,5 +1,5 @@
 -- The contract of a quote can be met over any lists; by `quoted_unique` in one way only.
-use mathlib.Core.Path.{◌≡◌, refl}
+use mathlib.Core.Path.{◌≡◌, refl, sym}
 use mathlib.Core.Logic.{inr}
 use mathlib.Core.List.{List}
 use Prim.Native.Nat.{ℕ}
@@ -18,6 +18,6 @@ quoted_exists R m route = go (ℕ_discrete (quote_answer R m route) 0)
     go : Dec (quote_answer R m route ≡ 0) → (route' : List ℕ) × RouteQuoted R m route (quote_answer R m route) route'
     go (no z) = (route, record { answer = refl; refused = λ n. refl; done = λ q. absurd (z q) })
     go (yes z) =
-        let a = accepted R.blocks R.runs m route _ refl z in
+        let a = accepted R.blocks R.runs m route (sym z) in
         let w = route_exists R (ByPlaces R) (places_dec R) m (inr (omega (arith, a.present, a.sound.fit.runs.flags m a.number))) in
         (w.0, record { answer = refl; refused = λ n. absurd (n z); done = λ q. w.1 })

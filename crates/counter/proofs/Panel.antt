@@ -20,7 +20,7 @@ pub drawn_stores : (b : Book) (T : Tables) → Drawn b T → (m : ℕ) (route ro
     → route' ≡ route_words T.routes m
 drawn_stores b T d m route route' q =
     route_unique (records T) (ByPlaces (records T)) m (q.done refl)
-    (d.right.routes m (accepted T.blocks T.runs m route 0 q.answer refl).number)
+    (d.right.routes m (accepted T.blocks T.runs m route q.answer).number)
 
 -- as it is on a yard that the check answers 0
 pub panel_stores : (T : Tables) → Checked T 0 → (m : ℕ) (route route' : List ℕ) → RouteQuoted (records T) m route 0 route' → route' ≡ route_words T.routes m

@@ -1,11 +1,9 @@
 -- The number of a quote: the move's own, where the 48 words are there.
-use mathlib.Core.Path.{◌≡◌, sym, ap, ◌∙◌}
-use mathlib.Core.Bool.{Bool, true, false, cond}
+use mathlib.Core.Path.{◌≡◌, sym, ◌∙◌}
 use mathlib.Core.List.{List}
 use Prim.Native.Nat.{ℕ}
 use native.Mathlib.Omega.{arith}
 use native.Mathlib.Decide.{ℕ_discrete}
-use lib.Dec.{eqb}
 use lib.IntN.{ℤ}
 use lib.ListN.{length}
 use borrow.Author.Tests.{eq-eqb, ne_eqb}
@@ -28,9 +26,9 @@ module _ (T : Tables) (n : ℕ) (de dn : ℤ) (quote : List ℕ) where
     pub sized : length quote ≡ 48
     pub answer : answer_over T (move_block n de dn) ≡ 0
 
-  pub accepted : (v : ℕ) → v ≡ quote_answer T n de dn quote → v ≡ 0 → Accepted
-  accepted v e z = go (ℕ_discrete (length quote) 48)
+  pub accepted : 0 ≡ quote_answer T n de dn quote → Accepted
+  accepted e = go (ℕ_discrete (length quote) 48)
     where
       go : Dec (length quote ≡ 48) → Accepted
-      go (yes l) = record { sized = l; answer = sym (move_answer l) ∙ sym e ∙ z }
-      go (no l) = absurd (omega (arith, short_answer l, e, z))
+      go (yes l) = record { sized = l; answer = sym (e ∙ move_answer l) }
+      go (no l) = absurd (omega (arith, short_answer l, e))

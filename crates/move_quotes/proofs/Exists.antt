@@ -2,7 +2,7 @@
 use mathlib.Core.Path.{◌≡◌, refl, sym}
 use mathlib.Core.Logic.{◌⊎◌, inl, inr}
 use mathlib.Core.List.{List}
-use Prim.Native.Nat.{ℕ, ◌*◌, ◌<◌, ◌≤◌}
+use Prim.Native.Nat.{ℕ, ◌*◌, ◌≤◌}
 use native.Mathlib.Decide.{ℕ_discrete, dec_lt}
 use native.Mathlib.Omega.{arith}
 use lib.IntN.{ℤ}
@@ -24,7 +24,7 @@ quoted_exists T n de dn quote = go (ℕ_discrete (quote_answer T n de dn quote) 
     go : Dec (quote_answer T n de dn quote ≡ 0) → (quote' : List ℕ) × MoveQuoted T n de dn quote (quote_answer T n de dn quote) quote'
     go (no z) = (quote, record { answer = refl; refused = λ q. refl; done = λ q. absurd (z q) })
     go (yes z) =
-        let a = accepted T n de dn quote _ refl z in
-        let f = ready T (move_block n de dn) 0 (sym a.answer) refl in
+        let a = accepted T n de dn quote (sym z) in
+        let f = ready T (move_block n de dn) (sym a.answer) in
         let p = prices_exist (moved (records T) n de dn) (λ m l. flag (word T.runs (5 * m)) (f.fit.runs.flags m l)) in
         (p.0, record { answer = refl; refused = λ q. absurd (q z); done = λ q. p.1 })

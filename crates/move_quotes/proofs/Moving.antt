@@ -66,9 +66,9 @@ unfolding moved written
 moved_is blocks runs n de dn l e = rw (book_block (stored blocks runs) n l) (ap (λ (b : List ℕ). stored b runs) e)
 
 -- what is asked where a quote is not refused
-module _ (T : Tables) (n v : ℕ) (de dn : ℤ) (quote : List ℕ) (f : v ≡ quote_answer T n de dn quote) (z : v ≡ 0) where
+module _ (T : Tables) (n : ℕ) (de dn : ℤ) (quote : List ℕ) (f : 0 ≡ quote_answer T n de dn quote) where
   granted : Accepted T n de dn quote
-  granted = accepted T n de dn quote v f z
+  granted = accepted T n de dn quote f
 
   pub quote_sized : length quote ≡ 48
   quote_sized = granted.sized
@@ -76,20 +76,20 @@ module _ (T : Tables) (n v : ℕ) (de dn : ℤ) (quote : List ℕ) (f : v ≡ qu
   pub quote_asks : Bounded T.blocks × (n < 24) × (all (shift_right de dn) (corners (block_words T.blocks n)) ≡ true)
   quote_asks =
       let f₀ = sym granted.answer in
-      let g = move_ready T n 0 de dn f₀ refl in
-      (g.ready.fit.blocks, g.below, move_right T n 0 de dn f₀ refl)
+      let g = move_ready T n de dn f₀ in
+      (g.ready.fit.blocks, g.below, move_right T n de dn f₀)
 
   -- the moved records are ones that the coded test may be asked of, and those that the move leaves
   module _ {after : List ℕ} (e : after ≡ splice T.blocks (17 * n) (block_record (map (shifted de dn) (corners (block_words T.blocks n))))) where
     pub moved_upright : Upright (stored after T.runs)
     moved_upright =
-        let g = move_ready T n 0 de dn (sym granted.answer) refl in
+        let g = move_ready T n de dn (sym granted.answer) in
         upright_replaced T.blocks T.runs n _ g.upright (g.right _ refl) g.below e
 
     pub quoted : (quote' : List ℕ) → Prices (stored after T.runs) (ByPlaces (stored after T.runs)) quote' → MoveQuoted T n de dn quote 0 quote'
     quoted quote' p =
         record {
-          answer = sym z ∙ f;
+          answer = f;
           refused = λ q. absurd (q refl);
           done = λ q. subst (λ (R : Records). Prices R (ByPlaces R) quote') (moved_is T.blocks T.runs n de dn quote_asks.1 e) p;
         }

@@ -1,12 +1,10 @@
 -- The quote and the move agree: on a yard that the check answers 0 the words are the states and lengths that the move leaves in the route table.
-use mathlib.Core.Path.{◌≡◌, refl, sym, ap, ◌∙◌}
+use mathlib.Core.Path.{◌≡◌, refl, ap, ◌∙◌}
 use mathlib.Core.List.{List}
 use Prim.Native.Nat.{ℕ, ◌+◌, ◌*◌, ◌<◌}
 use lib.IntN.{ℤ}
 use Rattle.geometry.specs.Words.{word}
-use Rattle.tables.specs.Tables.{Records, Tables, records, stored}
-use Rattle.visibility.specs.Visibility.{ByPlaces}
-use Rattle.routing.specs.Routes.{RouteIs}
+use Rattle.tables.specs.Tables.{Tables, records, stored}
 use Rattle.run_prices.proofs.Unique.{prices_unique}
 use Rattle.run_prices.proofs.Exists.{prices_of, prices_of_lem, state_at, price_at}
 use Rattle.book.specs.Book.{Edit, Book, move_block, empty_book, after_all}
@@ -26,7 +24,7 @@ Same quote routes = (m : ℕ) → m < 24 → (word quote m ≡ word routes (197 
 module _ (T T' : Tables) (n : ℕ) (de dn : ℤ) (quote quote' : List ℕ) (r : ℕ) (q : MoveQuoted T n de dn quote 0 quote') (c : Called (move_block n de dn) T r T') where
   -- the move that was quoted is made
   pub move_made : r ≡ 0
-  move_made = c.answer ∙ (accepted T n de dn quote 0 q.answer refl).answer
+  move_made = c.answer ∙ (accepted T n de dn quote q.answer).answer
 
   -- and leaves the records that were priced, over any tables
   pub move_records : records T' ≡ moved (records T) n de dn

@@ -2,6 +2,7 @@
 #![tactic(auto)]
 
 ghost use Rattle.std.specs.Prelude.{◌≡◌, true, map, ◌*◌, ◌<◌, length};
+ghost use Rattle.refusals.specs.Numbers.{answer_of};
 ghost use Rattle.lists.specs.Lists.{all, splice};
 ghost use Rattle.geometry.specs.Words.{block_words, corners};
 ghost use Rattle.geometry.specs.inner.Bounds.{Bounded};
@@ -11,6 +12,7 @@ ghost use Rattle.records.specs.Questions.{shift_right, shifted};
 ghost use Rattle.move_quotes.specs.Quote.{quote_answer, MoveQuoted};
 
 use lists::put_words;
+use refusals::Refusal;
 
 // The first question that is answered no.
 fn answer(
@@ -23,12 +25,12 @@ fn answer(
     east: i16,
     north: i16,
     quote: &[u32],
-) -> u32
-    ensures { result ≡ quote_answer (tables blocks.now runs.now pairs.now routes.now totals.now)
+) -> Result<(), Refusal>
+    ensures { answer_of result ≡ quote_answer (tables blocks.now runs.now pairs.now routes.now totals.now)
         number east north quote.now }
 {
     if quote.len() != 48 {
-        return 1;
+        return Err(Refusal::WrongLengths);
     }
     answers::move_block_answer(blocks, runs, pairs, routes, totals, number, east, north)
 }
@@ -54,18 +56,15 @@ pub fn quote_move(
     east: i16,
     north: i16,
     quote: &mut [u32],
-) -> u32
+) -> Result<(), Refusal>
     ensures { MoveQuoted (tables blocks.now runs.now pairs.now routes.now totals.now)
-        number east north quote.old result quote.new }
+        number east north quote.old (answer_of result) quote.new }
 {
-    let v = answer(
+    answer(
         blocks, runs, pairs, routes, totals, number, east, north, quote,
-    );
-    if v != 0 {
-        return v;
-    }
+    )?;
     let mut after = [0u16; 408];
     move_words(blocks, number as usize, east, north, &mut after);
     run_prices::price_records(&after, runs, quote);
-    0
+    Ok(())
 }

@@ -1,19 +1,19 @@
 -- What the loops over holders, shares and runs keep, and the answers of the tests.
-use mathlib.Core.Path.{◌≡◌, refl, sym, ◌∙◌}
+use mathlib.Core.Path.{◌≡◌, refl, sym, ap, ◌∙◌}
 use mathlib.Core.List.{List, []}
-use mathlib.Core.Bool.{Bool, true, false, not}
-use Prim.Native.Nat.{ℕ, ◌+◌, ◌*◌, ◌-◌, ◌<◌, ◌≤◌}
+use mathlib.Core.Bool.{Bool, true, false, ◌&&◌, and-true, and_assoc}
+use Prim.Native.Nat.{ℕ, zero, suc, ◌+◌, ◌*◌, ◌-◌, ◌<◌, ◌≤◌}
 use native.Mathlib.Numerals.{add-one}
 use native.Mathlib.Omega.{arith}
-use lib.Dec.{ltb, leb, eqb}
-use borrow.Author.Tests.{not-true, not-false, lt-ltb, le-ltb}
+use lib.Dec.{eqb}
+use mir.Val.{bool_byte}
+use Rattle.std.specs.List.{range_with_len, list_all}
 use Rattle.geometry.specs.Words.{word}
 use Rattle.lists.specs.Lists.{all_below}
 use Rattle.tables.specs.Tables.{stored}
 use Rattle.book.specs.Book.{free}
 use Rattle.book.proofs.Stored.{run_free}
-use Rattle.shares.specs.Shares.{sum_below, one, terms, held, free_numbers, unfilled_of, unfilled, unfilled_others, holder_right, terms_right, holders_right, holdings_right, shares_right}
-use Rattle.shares.specs.Calls.{names_right}
+use Rattle.shares.specs.Shares.{sum_below, one, held, free_numbers, unfilled_of, unfilled, unfilled_others, holder_right}
 use Rattle.shares.proofs.Counts.{unfilled_split}
 use Rattle.share_answers.specs.inner.Asked.{run_places}
 
@@ -32,15 +32,46 @@ sum_next f i n v e s = record { is = rw add-one (rw (s.is, e)) }
 pub sum_done : (f : ℕ → ℕ) (k i n : ℕ) → i ≤ k → k ≤ i → SumTo f i n → n ≡ sum_below k f
 sum_done f k i n a b s = let q : i ≡ k = omega arith in rw q at s.is
 
+-- a test of every number of a range, as `all` makes it
+all_same : (p q : ℕ → Bool) (n : ℕ) → ((k : ℕ) → k < n → p k ≡ q k) → all_below n p ≡ all_below n q
+unfolding all_below
+all_same p q zero h = refl
+all_same p q (suc n) h = rw (all_same p q n (λ k l. h k (omega arith)), h n (omega arith)) refl
+
+all_shifted : (p : ℕ → Bool) (n : ℕ) → p 0 && all_below n (λ k. p (k + 1)) ≡ all_below (suc n) p
+unfolding all_below
+all_shifted p zero = and-true (p 0)
+all_shifted p (suc n) = sym (and_assoc (p 0) (all_below n (λ k. p (k + 1))) (p (n + 1))) ∙ rw (all_shifted p n, add-one) refl
+
+all_from : (p : ℕ → Bool) (a n : ℕ) → list_all p (range_with_len a n) ≡ all_below n (λ k. p (a + k))
+unfolding all_below
+all_from p a zero = refl
+all_from p a (suc n) =
+    let z : a ≡ a + 0 = omega arith in
+    rw (all_from p (a + 1) n)
+    (ap (λ (t : Bool). p a && t) (all_same (λ k. p (a + 1 + k)) (λ k. p (a + (k + 1))) n (λ k l. ap p (omega arith)))
+    ∙ ap (λ (m : ℕ). p m && all_below n (λ k. p (a + (k + 1)))) z ∙ all_shifted (λ k. p (a + k)) n)
+
+pub all_range : (p q : ℕ → Bool) (n : ℕ) (r : Bool) → r ≡ list_all p (range_with_len 0 n) → ((k : ℕ) → k < n → p k ≡ q k) → r ≡ all_below n q
+all_range p q n r e h = e ∙ all_from p 0 n ∙ all_same (λ k. p (0 + k)) q n (λ k l. let z : 0 + k ≡ k = omega arith in ap p z ∙ h k l)
+
 -- the parts of the sums
-pub counted : (w x c v : ℕ) → w ≡ x → v ≡ one (eqb w c) → v ≡ one (eqb x c)
-counted w x c v e f = rw e at f
+bit_is : (b : Bool) → bool_byte b ≡ one b
+bit_is true = refl
+bit_is false = refl
+
+pub bit_small : (b : Bool) → bool_byte b ≤ 1
+bit_small true = omega arith
+bit_small false = omega arith
+
+pub counted : (w x c v : ℕ) → w ≡ x → v ≡ bool_byte (eqb w c) → v ≡ one (eqb x c)
+counted w x c v e f = f ∙ rw (e) (bit_is (eqb x c))
 
 pub free_at : (runs : List ℕ) (m : ℕ) → m < 24 → free (run_places runs) m ≡ eqb (word runs (5 * m)) 0
 free_at runs m l = run_free (stored [] runs) m l
 
-pub free_counted : (runs : List ℕ) (m v : ℕ) → m < 24 → v ≡ one (eqb (word runs (5 * m)) 0) → v ≡ one (free (run_places runs) m)
-free_counted runs m v l e = rw (free_at runs m l) e
+pub free_counted : (runs : List ℕ) (m v : ℕ) → m < 24 → v ≡ bool_byte (eqb (word runs (5 * m)) 0) → v ≡ one (free (run_places runs) m)
+free_counted runs m v l e = rw (free_at runs m l) (e ∙ bit_is (eqb (word runs (5 * m)) 0))
 
 pub left_counted : (hs shares : List ℕ) (c h v : ℕ) → h ≡ held hs c → v ≡ word shares c - h → v ≡ unfilled_of hs shares c
 left_counted hs shares c h v e f = rw e at f
@@ -67,55 +98,5 @@ module _ (hs shares : List ℕ) (c u o h : ℕ) (l : c < 4) (a : u ≡ unfilled 
   others_are = omega (arith, unfilled_split hs shares c l)
 
 -- a run's holder
-pub holder_is : (runs hs : List ℕ) (m : ℕ) (t v : Bool) → m < 24 → t ≡ holder_right (eqb (word runs (5 * m)) 0) (word hs m) → t ≡ v
-    → holder_right (free (run_places runs) m) (word hs m) ≡ v
-holder_is runs hs m t v l e f = rw (free_at runs m l) (sym e ∙ f)
-
-pub holder_absent : (a : Bool) (h : ℕ) → a ≡ true → eqb h 255 ≡ holder_right a h
-holder_absent a h e = rw e
-
-pub holder_present : (a : Bool) (h : ℕ) → a ≡ false → ltb h 4 ≡ holder_right a h
-holder_present a h e = rw e
-
--- the numbers that are compared are those of the definitions
-pub ltb_of : (h w a b : ℕ) → h ≡ a → w ≡ b → ltb h w ≡ ltb a b
-ltb_of h w a b e f = rw (e, f)
-
-pub leb_of : (h w a b : ℕ) → h ≡ a → w ≡ b → leb h w ≡ leb a b
-leb_of h w a b e f = rw (e, f)
-
--- question 3
-pub names_low : (c m : ℕ) → c < 4 → ltb m 24 ≡ names_right c m
-names_low c m l = rw (lt-ltb c 4 l)
-
-pub names_high : (c m : ℕ) → 4 ≤ c → false ≡ names_right c m
-names_high c m l = rw (le-ltb c 4 l)
-
--- question 18, part after part
-module _ (s c : List ℕ) (t : Bool) (e : t ≡ all_below 4 (λ k. leb (word s k) (word c k))) where
-  pub terms_no : not t ≡ true → false ≡ terms_right (terms s c)
-  unfolding terms_right
-  terms_no n = rw (sym e ∙ not-true t n)
-
-  pub terms_are : (n : ℕ) → not t ≡ false → n ≡ sum_below 4 (λ k. word s k) → leb n 24 ≡ terms_right (terms s c)
-  unfolding terms_right
-  terms_are n y f = rw (sym e ∙ not-false t y, f)
-
-module _ (runs hs s c : List ℕ) (t₁ : Bool) (e₁ : t₁ ≡ terms_right (terms s c)) where
-  pub shares_1 : not t₁ ≡ true → false ≡ shares_right (run_places runs) (terms s c) hs
-  unfolding shares_right
-  shares_1 n = rw (sym e₁ ∙ not-true t₁ n)
-
-  module _ (y₁ : not t₁ ≡ false) (t₂ : Bool) (e₂ : t₂ ≡ holders_right (run_places runs) hs) where
-    pub shares_2 : not t₂ ≡ true → false ≡ shares_right (run_places runs) (terms s c) hs
-    unfolding shares_right
-    shares_2 n = rw (sym e₁ ∙ not-false t₁ y₁, sym e₂ ∙ not-true t₂ n)
-
-    module _ (y₂ : not t₂ ≡ false) (t₃ : Bool) (e₃ : t₃ ≡ holdings_right (terms s c) hs) where
-      pub shares_3 : not t₃ ≡ true → false ≡ shares_right (run_places runs) (terms s c) hs
-      unfolding shares_right
-      shares_3 n = rw (sym e₁ ∙ not-false t₁ y₁, sym e₂ ∙ not-false t₂ y₂, sym e₃ ∙ not-true t₃ n)
-
-      pub shares_are : (u f : ℕ) → not t₃ ≡ false → u ≡ unfilled hs s → f ≡ free_numbers (run_places runs) → leb u f ≡ shares_right (run_places runs) (terms s c) hs
-      unfolding shares_right
-      shares_are u f y₃ a b = rw (sym e₁ ∙ not-false t₁ y₁, sym e₂ ∙ not-false t₂ y₂, sym e₃ ∙ not-false t₃ y₃, a, b)
+pub holder_at : (runs hs : List ℕ) (m : ℕ) → m < 24 → holder_right (eqb (word runs (5 * m)) 0) (word hs m) ≡ holder_right (free (run_places runs) m) (word hs m)
+holder_at runs hs m l = rw (free_at runs m l)

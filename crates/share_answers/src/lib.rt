@@ -2,6 +2,7 @@
 #![tactic(auto)]
 
 ghost use Rattle.std.specs.Prelude.{◌≡◌, ◌+◌, ◌-◌, ◌<◌, ◌≤◌, ltb, leb, length};
+ghost use Rattle.refusals.specs.Numbers.{answer_of};
 ghost use Rattle.lists.specs.Lists.{all_below};
 ghost use Rattle.geometry.specs.Words.{word};
 ghost use Rattle.book.specs.Questions.{first_no};
@@ -9,20 +10,7 @@ ghost use Rattle.shares.specs.Shares.{sum_below, one, terms, held, free_numbers,
 ghost use Rattle.shares.specs.Calls.{names_right};
 ghost use Rattle.share_answers.specs.inner.Asked.{run_places, named_asked, add_asked, own_asked};
 
-fn wide(v: u8) -> u32
-    ensures { (result ≡ v) × (result ≤ 255) }
-{
-    v as u32
-}
-
-fn one_if(yes: bool) -> u32
-    ensures { (result ≡ one yes) × (result ≤ 1) }
-{
-    if yes {
-        return 1;
-    }
-    0
-}
+use refusals::Refusal;
 
 // How many runs a contractor holds.
 fn held(holders: &[u8], contractor: u32) -> u32
@@ -30,10 +18,8 @@ fn held(holders: &[u8], contractor: u32) -> u32
     ensures { (result ≡ held holders.now contractor) × (result ≤ 24) }
 {
     let mut n = 0;
-    let mut m = 0;
-    while m < 24 {
-        n += one_if(wide(holders[m]) == contractor);
-        m += 1;
+    for holder in holders {
+        n += u32::from(u32::from(*holder) == contractor);
     }
     n
 }
@@ -44,10 +30,8 @@ fn free_numbers(runs: &[u16]) -> u32
     ensures { (result ≡ free_numbers (run_places runs.now)) × (result ≤ 24) }
 {
     let mut n = 0;
-    let mut m = 0;
-    while m < 24 {
-        n += one_if(runs[5 * m] == 0);
-        m += 1;
+    for m in 0..24 {
+        n += u32::from(runs[5 * m] == 0);
     }
     n
 }
@@ -56,11 +40,7 @@ fn free_numbers(runs: &[u16]) -> u32
 fn left_of(share: u8, holding: u32) -> u32
     ensures { (result ≡ share - holding) × (result ≤ 255) }
 {
-    let promised = wide(share);
-    if promised <= holding {
-        return 0;
-    }
-    promised - holding
+    u32::from(share).saturating_sub(holding)
 }
 
 // What is left of all shares.
@@ -69,10 +49,8 @@ fn unfilled(holders: &[u8], shares: &[u8]) -> u32
     ensures { (result ≡ unfilled holders.now shares.now) × (result ≤ 1020) }
 {
     let mut n = 0;
-    let mut c: u32 = 0;
-    while c < 4 {
+    for c in 0..4 {
         n += left_of(shares[c as usize], held(holders, c));
-        c += 1;
     }
     n
 }
@@ -91,15 +69,7 @@ fn shares_below(shares: &[u8], ceilings: &[u8]) -> bool
     requires { (length shares.now ≡ 4) × (length ceilings.now ≡ 4) }
     ensures { result ≡ all_below 4 (λ c. leb (word shares.now c) (word ceilings.now c)) }
 {
-    let mut c = 0;
-    while c < 4 {
-        if shares[c] <= ceilings[c] {
-            c += 1;
-        } else {
-            return false;
-        }
-    }
-    true
+    (0..4).all(|c| shares[c] <= ceilings[c])
 }
 
 // All shares together.
@@ -108,31 +78,24 @@ fn promised(shares: &[u8]) -> u32
     ensures { result ≡ sum_below 4 (λ c. word shares.now c) }
 {
     let mut n = 0;
-    let mut c = 0;
-    while c < 4 {
-        n += wide(shares[c]);
-        c += 1;
+    for share in shares {
+        n += u32::from(*share);
     }
     n
 }
 
+#[tactic(auto, unfolding(shares::specs::Shares::terms_right))]
 fn terms_right(shares: &[u8], ceilings: &[u8]) -> bool
     requires { (length shares.now ≡ 4) × (length ceilings.now ≡ 4) }
     ensures { result ≡ terms_right (terms shares.now ceilings.now) }
 {
-    if !shares_below(shares, ceilings) {
-        return false;
-    }
-    promised(shares) <= 24
+    shares_below(shares, ceilings) && promised(shares) <= 24
 }
 
 fn holder_right(absent: bool, holder: u8) -> bool
     ensures { result ≡ holder_right absent holder }
 {
-    if absent {
-        return holder == 255;
-    }
-    holder < 4
+    if absent { holder == 255 } else { holder < 4 }
 }
 
 // Each run's holder is a contractor, each absent one's is 255.
@@ -140,22 +103,14 @@ fn holders_right(runs: &[u16], holders: &[u8]) -> bool
     requires { (length runs.now ≡ 121) × (length holders.now ≡ 24) }
     ensures { result ≡ holders_right (run_places runs.now) holders.now }
 {
-    let mut m = 0;
-    while m < 24 {
-        if holder_right(runs[5 * m] == 0, holders[m]) {
-            m += 1;
-        } else {
-            return false;
-        }
-    }
-    true
+    (0..24).all(|m| holder_right(runs[5 * m] == 0, holders[m]))
 }
 
 fn holding_right(holders: &[u8], ceiling: u8, contractor: u32) -> bool
     requires { length holders.now ≡ 24 }
     ensures { result ≡ leb (held holders.now contractor) ceiling }
 {
-    held(holders, contractor) <= wide(ceiling)
+    held(holders, contractor) <= u32::from(ceiling)
 }
 
 // No holding is above its ceiling.
@@ -163,42 +118,26 @@ fn holdings_right(holders: &[u8], shares: &[u8], ceilings: &[u8]) -> bool
     requires { (length holders.now ≡ 24) × (length ceilings.now ≡ 4) }
     ensures { result ≡ holdings_right (terms shares.now ceilings.now) holders.now }
 {
-    let mut c: u32 = 0;
-    while c < 4 {
-        if holding_right(holders, ceilings[c as usize], c) {
-            c += 1;
-        } else {
-            return false;
-        }
-    }
-    true
+    (0..4).all(|c| holding_right(holders, ceilings[c as usize], c))
 }
 
 // Question 18.
+#[tactic(auto, unfolding(shares::specs::Shares::shares_right))]
 fn shares_right(runs: &[u16], holders: &[u8], shares: &[u8], ceilings: &[u8]) -> bool
     requires { (length runs.now ≡ 121) × (length holders.now ≡ 24) × (length shares.now ≡ 4) × (length ceilings.now ≡ 4) }
     ensures { result ≡ shares_right (run_places runs.now) (terms shares.now ceilings.now) holders.now }
 {
-    if !terms_right(shares, ceilings) {
-        return false;
-    }
-    if !holders_right(runs, holders) {
-        return false;
-    }
-    if !holdings_right(holders, shares, ceilings) {
-        return false;
-    }
-    unfilled(holders, shares) <= free_numbers(runs)
+    terms_right(shares, ceilings)
+        && holders_right(runs, holders)
+        && holdings_right(holders, shares, ceilings)
+        && unfilled(holders, shares) <= free_numbers(runs)
 }
 
 // Question 3.
 fn names_right(contractor: u32, number: u32) -> bool
     ensures { result ≡ names_right contractor number }
 {
-    if contractor < 4 {
-        return number < 24;
-    }
-    false
+    contractor < 4 && number < 24
 }
 
 // Question 19.
@@ -206,7 +145,7 @@ fn below_ceiling(holders: &[u8], ceiling: u8, contractor: u32) -> bool
     requires { length holders.now ≡ 24 }
     ensures { result ≡ ltb (held holders.now contractor) ceiling }
 {
-    held(holders, contractor) < wide(ceiling)
+    held(holders, contractor) < u32::from(ceiling)
 }
 
 // Question 20.
@@ -218,6 +157,7 @@ fn spares_others(runs: &[u16], holders: &[u8], shares: &[u8], contractor: u32) -
 }
 
 // Questions 18 and 3.
+#[tactic(auto, unfolding(crate::specs::inner::Asked::named_asked, book::specs::Questions::first_no))]
 fn named_answer(
     runs: &[u16],
     holders: &[u8],
@@ -225,19 +165,17 @@ fn named_answer(
     ceilings: &[u8],
     contractor: u32,
     number: u32,
-) -> u32
+) -> Result<(), Refusal>
     requires { (length runs.now ≡ 121) × (length holders.now ≡ 24) × (length shares.now ≡ 4) × (length ceilings.now ≡ 4) }
-    ensures { result ≡ first_no (named_asked (run_places runs.now) (terms shares.now ceilings.now) holders.now contractor number) }
+    ensures { answer_of result ≡ first_no (named_asked (run_places runs.now) (terms shares.now ceilings.now) holders.now contractor number) }
 {
-    let right = shares_right(runs, holders, shares, ceilings);
-    let named = names_right(contractor, number);
-    if !right {
-        return 18;
+    if !shares_right(runs, holders, shares, ceilings) {
+        return Err(Refusal::SharesDisagree);
     }
-    if !named {
-        return 3;
+    if !names_right(contractor, number) {
+        return Err(Refusal::NoSuchNumber);
     }
-    0
+    Ok(())
 }
 
 // Questions 18, 3, 4, 19 and 20, of an addition.
@@ -248,26 +186,21 @@ pub fn add_answer(
     ceilings: &[u8],
     contractor: u32,
     number: u32,
-) -> u32
+) -> Result<(), Refusal>
     requires { (length runs.now ≡ 121) × (length holders.now ≡ 24) × (length shares.now ≡ 4) × (length ceilings.now ≡ 4) }
-    ensures { result ≡ first_no (add_asked (run_places runs.now) (terms shares.now ceilings.now) holders.now contractor number) }
+    ensures { answer_of result ≡ first_no (add_asked (run_places runs.now) (terms shares.now ceilings.now) holders.now contractor number) }
 {
-    let v = named_answer(runs, holders, shares, ceilings, contractor, number);
-    if v != 0 {
-        return v;
-    }
+    named_answer(runs, holders, shares, ceilings, contractor, number)?;
     if runs[5 * (number as usize)] != 0 {
-        return 4;
+        return Err(Refusal::Taken);
     }
-    let below = below_ceiling(holders, ceilings[contractor as usize], contractor);
-    let spared = spares_others(runs, holders, shares, contractor);
-    if !below {
-        return 19;
+    if !below_ceiling(holders, ceilings[contractor as usize], contractor) {
+        return Err(Refusal::AtTheCeiling);
     }
-    if !spared {
-        return 20;
+    if !spares_others(runs, holders, shares, contractor) {
+        return Err(Refusal::PromisedToOthers);
     }
-    0
+    Ok(())
 }
 
 // Questions 18, 3 and 5, of a removal and of a move.
@@ -278,20 +211,14 @@ pub fn own_answer(
     ceilings: &[u8],
     contractor: u32,
     number: u32,
-) -> u32
+) -> Result<(), Refusal>
     requires { (length runs.now ≡ 121) × (length holders.now ≡ 24) × (length shares.now ≡ 4) × (length ceilings.now ≡ 4) }
-    ensures { result ≡ first_no (own_asked (run_places runs.now) (terms shares.now ceilings.now) holders.now contractor number) }
+    ensures { answer_of result ≡ first_no (own_asked (run_places runs.now) (terms shares.now ceilings.now) holders.now contractor number) }
 {
-    let v = named_answer(runs, holders, shares, ceilings, contractor, number);
-    if v != 0 {
-        return v;
-    }
+    named_answer(runs, holders, shares, ceilings, contractor, number)?;
     let m = number as usize;
-    if runs[5 * m] == 0 {
-        return 5;
+    if runs[5 * m] == 0 || u32::from(holders[m]) != contractor {
+        return Err(Refusal::Absent);
     }
-    if wide(holders[m]) != contractor {
-        return 5;
-    }
-    0
+    Ok(())
 }

@@ -1,8 +1,9 @@
 // Runs added, removed and moved in the names of four contractors, each of which keeps the share that it was promised.
-// Each call answers the number of the first question that is answered no, and then changes no table and no holder; 0 means done.
+// Each call is refused by the first question that is answered no, and then changes no table and no holder.
 #![tactic(auto)]
 
 ghost use Rattle.std.specs.Prelude.{◌≡◌, []};
+ghost use Rattle.refusals.specs.Numbers.{answer_of};
 ghost use Rattle.geometry.specs.Words.{point_of};
 ghost use Rattle.tables.specs.Tables.{tables};
 ghost use Rattle.shares.specs.Shares.{terms};
@@ -12,10 +13,12 @@ ghost use Rattle.share_edits.specs.inner.Over.{over};
 
 use answers::fitness;
 use geometry::Place;
+use refusals::Refusal;
 use run_edits::{add_run, move_run, remove_run};
 use share_answers::{add_answer, own_answer};
 
 // Questions 1 and 2, and 1 of the lists too.
+#[tactic(auto, unfolding(crate::specs::inner::Over::over, shares::specs::Shares::lists_right, book::specs::Questions::first_no))]
 fn fitness_for(
     blocks: &[u16],
     runs: &[u16],
@@ -25,18 +28,12 @@ fn fitness_for(
     holders: &[u8],
     shares: &[u8],
     ceilings: &[u8],
-) -> u32
-    ensures { result ≡ over (tables blocks.now runs.now pairs.now routes.now totals.now)
+) -> Result<(), Refusal>
+    ensures { answer_of result ≡ over (tables blocks.now runs.now pairs.now routes.now totals.now)
         (terms shares.now ceilings.now) holders.now [] }
 {
-    if holders.len() != 24 {
-        return 1;
-    }
-    if shares.len() != 4 {
-        return 1;
-    }
-    if ceilings.len() != 4 {
-        return 1;
+    if holders.len() != 24 || shares.len() != 4 || ceilings.len() != 4 {
+        return Err(Refusal::WrongLengths);
     }
     fitness(blocks, runs, pairs, routes, totals)
 }
@@ -53,17 +50,14 @@ fn add_answer_over(
     ceilings: &[u8],
     contractor: u32,
     number: u32,
-) -> u32
-    ensures { result ≡ over (tables blocks.now runs.now pairs.now routes.now totals.now)
+) -> Result<(), Refusal>
+    ensures { answer_of result ≡ over (tables blocks.now runs.now pairs.now routes.now totals.now)
         (terms shares.now ceilings.now) holders.now
         (add_asked (run_places runs.now) (terms shares.now ceilings.now) holders.now contractor number) }
 {
-    let v = fitness_for(
+    fitness_for(
         blocks, runs, pairs, routes, totals, holders, shares, ceilings,
-    );
-    if v != 0 {
-        return v;
-    }
+    )?;
     add_answer(runs, holders, shares, ceilings, contractor, number)
 }
 
@@ -79,17 +73,14 @@ fn own_answer_over(
     ceilings: &[u8],
     contractor: u32,
     number: u32,
-) -> u32
-    ensures { result ≡ over (tables blocks.now runs.now pairs.now routes.now totals.now)
+) -> Result<(), Refusal>
+    ensures { answer_of result ≡ over (tables blocks.now runs.now pairs.now routes.now totals.now)
         (terms shares.now ceilings.now) holders.now
         (own_asked (run_places runs.now) (terms shares.now ceilings.now) holders.now contractor number) }
 {
-    let v = fitness_for(
+    fitness_for(
         blocks, runs, pairs, routes, totals, holders, shares, ceilings,
-    );
-    if v != 0 {
-        return v;
-    }
+    )?;
     own_answer(runs, holders, shares, ceilings, contractor, number)
 }
 
@@ -107,23 +98,17 @@ pub fn add_run_for(
     number: u32,
     first: Place,
     second: Place,
-) -> u32
+) -> Result<(), Refusal>
     ensures { CalledFor (add_run_for contractor number (point_of first) (point_of second)) (terms shares.now ceilings.now)
         (tables blocks.now runs.old pairs.old routes.old totals.old) holders.old
-        result (tables blocks.now runs.new pairs.new routes.new totals.new) holders.new }
+        (answer_of result) (tables blocks.now runs.new pairs.new routes.new totals.new) holders.new }
 {
-    let v = add_answer_over(
+    add_answer_over(
         blocks, runs, pairs, routes, totals, holders, shares, ceilings, contractor, number,
-    );
-    if v != 0 {
-        return v;
-    }
-    let w = add_run(blocks, runs, pairs, routes, totals, number, first, second);
-    if w != 0 {
-        return w;
-    }
+    )?;
+    add_run(blocks, runs, pairs, routes, totals, number, first, second)?;
     holders[number as usize] = contractor as u8;
-    0
+    Ok(())
 }
 
 // A contractor's own run removed.
@@ -138,20 +123,17 @@ pub fn remove_run_for(
     ceilings: &[u8],
     contractor: u32,
     number: u32,
-) -> u32
+) -> Result<(), Refusal>
     ensures { CalledFor (remove_run_for contractor number) (terms shares.now ceilings.now)
         (tables blocks.now runs.old pairs.old routes.old totals.old) holders.old
-        result (tables blocks.now runs.new pairs.new routes.new totals.new) holders.new }
+        (answer_of result) (tables blocks.now runs.new pairs.new routes.new totals.new) holders.new }
 {
-    let v = own_answer_over(
+    own_answer_over(
         blocks, runs, pairs, routes, totals, holders, shares, ceilings, contractor, number,
-    );
-    if v != 0 {
-        return v;
-    }
-    let w = remove_run(blocks, runs, pairs, routes, totals, number);
+    )?;
+    remove_run(blocks, runs, pairs, routes, totals, number)?;
     holders[number as usize] = 255;
-    w
+    Ok(())
 }
 
 // A contractor's own run with both ends new.
@@ -168,16 +150,13 @@ pub fn move_run_for(
     number: u32,
     first: Place,
     second: Place,
-) -> u32
+) -> Result<(), Refusal>
     ensures { CalledFor (move_run_for contractor number (point_of first) (point_of second)) (terms shares.now ceilings.now)
         (tables blocks.now runs.old pairs.old routes.old totals.old) holders.now
-        result (tables blocks.now runs.new pairs.new routes.new totals.new) holders.now }
+        (answer_of result) (tables blocks.now runs.new pairs.new routes.new totals.new) holders.now }
 {
-    let v = own_answer_over(
+    own_answer_over(
         blocks, runs, pairs, routes, totals, holders, shares, ceilings, contractor, number,
-    );
-    if v != 0 {
-        return v;
-    }
+    )?;
     move_run(blocks, runs, pairs, routes, totals, number, first, second)
 }

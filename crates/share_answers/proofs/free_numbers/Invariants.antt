@@ -2,11 +2,8 @@ use Rattle.share_answers.proofs.Loops.{SumTo}
 use Rattle.shares.specs.Shares.{one}
 use Rattle.share_answers.specs.inner.Asked.{run_places}
 use Rattle.book.specs.Book.{free}
-use Prim.Native.Nat.{◌-◌, ◌≤◌}
+use Prim.Native.Nat.{◌≤◌}
 use Rattle.share_answers.proofs.free_numbers.Given as goal
 
 abbrev pub invariant-loop-m : goal.invariant-loop-m
-invariant-loop-m l = (l.m ≤ 24) × (l.n ≤ l.m) × SumTo (λ k. one (free (run_places l.runs) k)) l.m l.n
-
-abbrev pub decreases-loop-m : goal.decreases-loop-m
-decreases-loop-m l = 24 - l.m
+invariant-loop-m l = (l.n ≤ l.m) × SumTo (λ k. one (free (run_places l.runs) k)) l.m l.n

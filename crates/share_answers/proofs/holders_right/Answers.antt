@@ -1,19 +1,20 @@
-use Rattle.lists.proofs.Below.{all_none, all_next, all_done, all_failed}
-use Rattle.share_answers.proofs.Loops.{holder_is}
-use Rattle.shares.specs.Shares.{holders_right}
-use native.Mathlib.Omega.{arith}
+use mathlib.Core.Path.{refl}
+use Prim.Native.Nat.{ℕ, ◌*◌}
+use lib.Dec.{eqb}
+use borrow.Author.Rules.{rules}
+use borrow.Author.Tests.{tests}
+use Rattle.std.proofs.lemmas.Iterator.{YieldsList-from_range}
+use Rattle.std.proofs.lemmas.Iterator.Search.{all_from_yields_List}
+use Rattle.geometry.specs.Words.{word}
+use Rattle.book.specs.Book.{free}
+use Rattle.shares.specs.Shares.{holder_right, holders_right}
+use Rattle.share_answers.specs.inner.Asked.{run_places}
+use Rattle.share_answers.proofs.Loops.{all_range, holder_at}
 use Rattle.share_answers.proofs.holders_right.Goals as goal
-
-pub loop-m-init : goal.loop-m-init
-loop-m-init c = (omega arith, all_none _)
-
-pub loop-m-preserved : goal.loop-m-preserved
-loop-m-preserved c = (omega arith, search (all_next, holder_is))
-
-pub returns-else-holder_right : goal.returns-else-holder_right
-unfolding holders_right
-returns-else-holder_right c = search (all_failed, holder_is)
 
 pub returns : goal.returns
 unfolding holders_right
-returns c = search all_done
+returns c =
+    let test = λ (k : ℕ). holder_right (eqb (word c.args.runs.now (5 * k)) 0) (word c.args.holders.now k) in
+    all_range test (λ k. holder_right (free (run_places c.args.runs.now) k) (word c.args.holders.now k)) 24 _ (all_from_yields_List test _ _ _ c.all.ensures.ran (YieldsList-from_range 0 24 24 refl refl) (λ x b q k. search (rules, tests)))
+    (holder_at c.args.runs.now c.args.holders.now)

@@ -1,16 +1,15 @@
-use Rattle.lists.proofs.Below.{all_none, all_next, all_done, all_failed}
-use borrow.Author.Tests.{le-leb, lt-leb}
-use native.Mathlib.Omega.{arith}
+use mathlib.Core.Path.{refl}
+use Prim.Native.Nat.{ℕ}
+use lib.Dec.{leb}
+use borrow.Author.Rules.{rules}
+use borrow.Author.Tests.{tests}
+use Rattle.std.proofs.lemmas.Iterator.{YieldsList-from_range}
+use Rattle.std.proofs.lemmas.Iterator.Search.{all_from_yields_List}
+use Rattle.geometry.specs.Words.{word}
+use Rattle.share_answers.proofs.Loops.{all_range}
 use Rattle.share_answers.proofs.shares_below.Goals as goal
 
-pub loop-c-init : goal.loop-c-init
-loop-c-init c = (omega arith, all_none _)
-
-pub loop-c-preserved : goal.loop-c-preserved
-loop-c-preserved c = (omega arith, search (all_next, le-leb))
-
-pub returns-else-shares-c : goal.returns-else-shares-c
-returns-else-shares-c c = search (all_failed, lt-leb)
-
 pub returns : goal.returns
-returns c = search all_done
+returns c =
+    let test = λ (k : ℕ). leb (word c.args.shares.now k) (word c.args.ceilings.now k) in
+    all_range test test 4 _ (all_from_yields_List test _ _ _ c.all.ensures.ran (YieldsList-from_range 0 4 4 refl refl) (λ x b q k. search (rules, tests))) (λ k l. refl)

@@ -1,11 +1,14 @@
+use Rattle.answers.proofs.Answers.{passed}
 use Rattle.share_edits.proofs.Asking.{unfit, fit, runs_121, holders_24, shares_4, ceilings_4}
 use Rattle.share_edits.proofs.own_answer_over.Goals as goal
 
-pub returns-then-v-ne0 : goal.returns-then-v-ne0
-returns-then-v-ne0 c = search unfit
+pub returns-in_err-fitness_for : goal.returns-in_err-fitness_for
+returns-in_err-fitness_for c = passed _ _ _ c.from_residual.ensures (unfit _ _ _ _ _ c.in_err-fitness_for.ensures)
 
 pub own_answer-requires : goal.own_answer-requires
-own_answer-requires c = (search runs_121, search holders_24, search shares_4, search ceilings_4)
+own_answer-requires c =
+    let f = c.in_ok-fitness_for.ensures in
+    (runs_121 _ _ _ _ _ _ _ _ f, holders_24 _ _ _ _ _ _ _ _ f, shares_4 _ _ _ _ _ _ _ _ f, ceilings_4 _ _ _ _ _ _ _ _ f)
 
 pub returns : goal.returns
-returns c = search fit
+returns c = search (fit, c.in_ok-fitness_for.ensures)
