@@ -11,7 +11,7 @@ use Rattle.lengths.specs.Length.{gap}
 use Rattle.nets.specs.Net.{Net}
 use Rattle.nets.specs.inner.Keys.{Attained}
 use Rattle.crossings.specs.inner.Charts.{spot, span, step_of, axis_by}
-use Rattle.sweeps.specs.inner.Keys.{key_at, unreached, Lanes, leave, through, on_line, gap_on, line_key, Calm, Fair, total, Improved, Lowered, Passed, Swept, AllCalm, Rounded, Searched}
+use Rattle.sweeps.specs.inner.Keys.{key_at, unreached, Lanes, leave, through, on_line, gap_on, line_key, Calm, Fair, Improved, Lowered}
 use Rattle.sweeps.proofs.Lowering.{lowered_none, lowered_then, lowered_one, improved_not}
 use Rattle.sweeps.proofs.Carrying.{Toward, west, south, north, east, Leads, axis_small, turned, carried_attained}
 
@@ -74,9 +74,6 @@ module _ (F : Lanes) (K : ℕ → ℕ) (d line n : ℕ) where
       → r ≡ min (leave F.end K (axis_by d) v) (through F.steps d v w c) → r ≡ line_key F K d line n (k + 1)
   unfolding line_key
   line_next k v w c r ve we ce e = rw (add-one, sym ce, sym ve, sym we) e
-
-  pub line_done : (k m c : ℕ) → k ≤ m → m ≤ k → c ≡ line_key F K d line n k → c ≡ line_key F K d line n m
-  line_done k m c a b e = let q : k ≡ m = omega arith in e ∙ ap (line_key F K d line n) q
 
 -- k crossings of a line are passed, and c is the key carried
 pub record Passing (G : Net) (F : Lanes) (d line n : ℕ) (top₀ low₀ top low : List ℕ) (moved c k : ℕ) : Type 0 where
@@ -142,54 +139,8 @@ module _ {G : Net} {F : Lanes} {d line n : ℕ} {top₀ low₀ : List ℕ} where
             let z : c' ≡ line_key F (key_at top₀ low₀) d line n (suc k) = carries e ∙ ap (line_key F (key_at top₀ low₀) d line n) (add-one k) in
             rw q (record { calm = omega (arith, ap (key_at top₀ low₀) ve) })
 
-  pub passed : {top low : List ℕ} {moved c k : ℕ} → Passing G F d line n top₀ low₀ top low moved c k → n ≤ 66 → k ≤ n → n ≤ k → Passed G F d line n top₀ low₀ top low moved
-  passed p s l h = record { few = omega (arith, p.few); lowered = p.lowered; calm = λ e i b. p.calm e i (omega arith) }
-
 -- the lines below this one are done
 pub record Sweeping (G : Net) (F : Lanes) (d n : ℕ) (top₀ low₀ top low : List ℕ) (moved line : ℕ) : Type 0 where
   pub few : moved ≤ 66 * line
   pub lowered : Lowered G F.end top₀ low₀ top low moved
   pub calm : moved ≡ 0 → (l k : ℕ) → l < line → k < n → Calm F (key_at top₀ low₀) d l n k
-
-module _ {G : Net} {F : Lanes} {d n : ℕ} {top₀ low₀ : List ℕ} where
-  pub sweeping_none : Fair G F.end top₀ low₀ → Sweeping G F d n top₀ low₀ top₀ low₀ 0 0
-  sweeping_none f = record { few = omega arith; lowered = lowered_none f; calm = λ e l k h. absurd (omega arith) }
-
-  pub sweeping_next : {top low top' low' : List ℕ} {moved line r : ℕ} → Sweeping G F d n top₀ low₀ top low moved line → Passed G F d line n top low top' low' r
-      → Sweeping G F d n top₀ low₀ top' low' (moved + r) (line + 1)
-  sweeping_next {moved = moved} {line = line} {r = r} s p =
-      record {
-        few = omega (arith, s.few, p.few);
-        lowered = lowered_then s.lowered p.lowered;
-        calm = λ e l k h kl. go e l k (omega arith) kl (ℕ_discrete l line);
-      }
-    where
-      go : moved + r ≡ 0 → (l k : ℕ) → l ≤ line → k < n → Dec (l ≡ line) → Calm F (key_at top₀ low₀) d l n k
-      go e l k h kl (no m) = s.calm (omega arith) l k (omega arith) kl
-      go e l k h kl (yes q) = let z = s.lowered.still (omega arith) in rw (q, sym z.0, sym z.1) (p.calm (omega arith) k kl)
-
-  pub swept : {top low : List ℕ} {moved line m : ℕ} → Sweeping G F d n top₀ low₀ top low moved line → m ≤ 66 → line ≤ m → m ≤ line → Swept G F d m n top₀ low₀ top low moved
-  swept s a b h = record { few = omega (arith, s.few); lowered = s.lowered; calm = λ e l k i. s.calm e l k (omega arith) }
-
-module _ {G : Net} {F : Lanes} {nx ny : ℕ} {t₀ l₀ t₁ l₁ t₂ l₂ t₃ l₃ t₄ l₄ : List ℕ} {a b c d : ℕ} where
-  pub rounded : Swept G F 0 ny nx t₀ l₀ t₁ l₁ a → Swept G F 3 ny nx t₁ l₁ t₂ l₂ b → Swept G F 1 nx ny t₂ l₂ t₃ l₃ c → Swept G F 2 nx ny t₃ l₃ t₄ l₄ d
-      → Rounded G F nx ny t₀ l₀ t₄ l₄ (a + b + c + d)
-  rounded p q r s =
-      let two = lowered_then p.lowered q.lowered in
-      let three = lowered_then two r.lowered in
-      record { lowered = lowered_then three s.lowered; calm = λ e. all e (p.lowered.still (omega arith)) (two.still (omega arith)) (three.still (omega arith)) }
-    where
-      all : a + b + c + d ≡ 0 → (t₁ ≡ t₀) × (l₁ ≡ l₀) → (t₂ ≡ t₀) × (l₂ ≡ l₀) → (t₃ ≡ t₀) × (l₃ ≡ l₀) → AllCalm F nx ny (key_at t₀ l₀)
-      all e x y z =
-          record {
-            west = p.calm (omega arith);
-            south = rw (sym y.0, sym y.1) (r.calm (omega arith));
-            north = rw (sym z.0, sym z.1) (s.calm (omega arith));
-            east = rw (sym x.0, sym x.1) (q.calm (omega arith));
-          }
-
-pub searched : {G : Net} {F : Lanes} {nx ny : ℕ} {top low top' low' : List ℕ} {r : ℕ} → Rounded G F nx ny top low top' low' r → r ≡ 0 → Searched G F nx ny top' low'
-searched o e = let s = o.lowered.still e in record { fair = o.lowered.fair; calm = rw (s.0, s.1) (o.calm e) }
-
-pub falls : {G : Net} {F : Lanes} {nx ny : ℕ} {top low top' low' : List ℕ} {r : ℕ} → Rounded G F nx ny top low top' low' r → (r ≡ 0 → ⊥) → total top' low' < total top low
-falls {r = r} o n = elim (ℕ_discrete r 0) [ yes e ↦ absurd (n e) | no e ↦ omega (arith, o.lowered.falls) ]

@@ -1,27 +1,15 @@
 // The search for the best path: passes along the lines in four directions, until no key becomes less.
 #![tactic(auto)]
 
-ghost use Rattle.std.specs.Prelude.{◌≡◌, ◌+◌, ◌*◌, ◌-◌, ◌<◌, ◌≤◌, min, length};
+ghost use Rattle.std.specs.Prelude.{◌≡◌, cond, ◌+◌, ◌*◌, ◌-◌, ◌<◌, ◌≤◌, min, length};
 ghost use Rattle.crossings.specs.Grid.{net};
 ghost use Rattle.crossings.specs.inner.Charts.{ruled, Ruled, Charted, axis_by};
+ghost use Rattle.crossings.specs.inner.Directions.{code, axis_code};
 ghost use Rattle.sweeps.specs.inner.Keys.{key_at, lanes, leave, through, on_line, gap_on, line_key, Fair, Stored, Improved, Passed, Swept, Rounded, Searched, Opened};
 
-use crossings::neighbour;
+use crossings::{Axis, Direction, neighbour};
 use lengths::apart;
 use lists::fill16;
-
-fn wide16(x: u16) -> u64
-    ensures value { result ≡ x }
-    ensures small { result ≤ 65535 }
-{
-    x as u64
-}
-
-pub fn lower64(a: u64, b: u64) -> u64
-    ensures { result ≡ min a b }
-{
-    if a < b { a } else { b }
-}
 
 // The key of crossing v.
 pub fn key_at(top: &[u16], low: &[u16], v: usize) -> u64
@@ -29,7 +17,7 @@ pub fn key_at(top: &[u16], low: &[u16], v: usize) -> u64
     ensures value { result ≡ key_at top.now low.now v }
     ensures small { result < 281474976710656 }
 {
-    4294967296 * wide16(top[v]) + 65536 * wide16(low[2 * v + 1]) + wide16(low[2 * v])
+    4294967296 * u64::from(top[v]) + 65536 * u64::from(low[2 * v + 1]) + u64::from(low[2 * v])
 }
 
 // Writes the key of crossing v.
@@ -42,92 +30,85 @@ fn put_key(top: &mut [u16], low: &mut [u16], v: usize, key: u64)
     low[2 * v] = (key % 65536) as u16;
 }
 
-// Makes the key of crossing v the one given where that is less; answers 1 then, else 0.
-fn improve(top: &mut [u16], low: &mut [u16], v: usize, key: u64) -> usize
+// Makes the key of crossing v the one given where that is less; answers whether it is.
+fn improve(top: &mut [u16], low: &mut [u16], v: usize, key: u64) -> bool
     requires { (length top.old ≡ 4356) × (length low.old ≡ 8712) × (v < 4356) }
-    ensures { Improved top.old low.old v key top.new low.new result }
+    ensures { Improved top.old low.old v key top.new low.new (cond result 1 0) }
 {
     if key_at(top, low, v) <= key {
-        return 0;
+        return false;
     }
     put_key(top, low, v, key);
-    1
+    true
 }
 
-// The axis of a direction: 0 north-south, 1 east-west.
-pub fn axis_by(d: usize) -> u64
-    ensures value { result ≡ axis_by d }
-    ensures small { result ≤ 1 }
+// What a change of direction to north or south adds to a key after a step along an axis: 25 × 65,536 + 1.
+fn turn_from(axis: Axis) -> u64
+    ensures value { result ≡ 1638401 * axis_code axis }
+    ensures small { result ≤ 1638401 }
 {
-    if d == 1 {
-        return 0;
+    match axis {
+        Axis::NorthSouth => 0,
+        Axis::EastWest => 1638401,
     }
-    if d == 2 {
-        return 0;
-    }
-    1
 }
 
 // Crossing k of a line of n: from crossing k + 1 direction d leads to it.
-fn on_line(d: usize, line: usize, n: usize, k: usize) -> usize
-    requires { (d ≤ 3) × (line < 66) × (n ≤ 66) × (k < n) }
-    ensures value { result ≡ on_line d line n k }
+#[tactic(auto, unfolding(crate::specs::inner::Keys::on_line))]
+fn on_line(d: Direction, line: usize, n: usize, k: usize) -> usize
+    requires { (line < 66) × (n ≤ 66) × (k < n) }
+    ensures value { result ≡ on_line (code d) line n k }
     ensures small { result < 4356 }
 {
-    if d == 0 {
-        return 66 * k + line;
+    match d {
+        Direction::West => 66 * k + line,
+        Direction::South => 66 * line + k,
+        Direction::North => 66 * line + (n - 1 - k),
+        Direction::East => 66 * (n - 1 - k) + line,
     }
-    if d == 1 {
-        return 66 * line + k;
-    }
-    if d == 2 {
-        return 66 * line + (n - 1 - k);
-    }
-    66 * (n - 1 - k) + line
 }
 
 // How far crossing k of a line of n lies from crossing k - 1.
-fn gap_on(xs: &[u16], ys: &[u16], d: usize, n: usize, k: usize) -> u64
+#[tactic(auto, unfolding(crate::specs::inner::Keys::gap_on))]
+fn gap_on(xs: &[u16], ys: &[u16], d: Direction, n: usize, k: usize) -> u64
     requires { (length xs.now ≡ 194) × (length ys.now ≡ 194) × (n ≤ 66) × (k < n) }
-    ensures value { result ≡ gap_on xs.now ys.now d n k }
+    ensures value { result ≡ gap_on xs.now ys.now (code d) n k }
     ensures small { result ≤ 65535 }
 {
     if k == 0 {
         return 0;
     }
-    if d == 0 {
-        return apart(xs[k], xs[k - 1]);
+    match d {
+        Direction::West => apart(xs[k], xs[k - 1]),
+        Direction::South => apart(ys[k], ys[k - 1]),
+        Direction::North => apart(ys[n - 1 - k], ys[n - k]),
+        Direction::East => apart(xs[n - 1 - k], xs[n - k]),
     }
-    if d == 1 {
-        return apart(ys[k], ys[k - 1]);
-    }
-    if d == 2 {
-        return apart(ys[n - 1 - k], ys[n - k]);
-    }
-    apart(xs[n - 1 - k], xs[n - k])
 }
 
-// The key of v after a step along b, where the path ends or goes on north or south.
-fn leave(top: &[u16], low: &[u16], end: usize, b: u64, v: usize) -> u64
-    requires { (length top.now ≡ 4356) × (length low.now ≡ 8712) × (v < 4356) × (b ≤ 1) }
-    ensures value { result ≡ leave end (key_at top.now low.now) b v }
+// The key of v after a step along an axis, where the path ends or goes on north or south.
+#[tactic(auto, unfolding(crate::specs::inner::Keys::leave))]
+fn leave(top: &[u16], low: &[u16], end: usize, axis: Axis, v: usize) -> u64
+    requires { (length top.now ≡ 4356) × (length low.now ≡ 8712) × (v < 4356) }
+    ensures value { result ≡ leave end (key_at top.now low.now) (axis_code axis) v }
     ensures small { result < 300000000000000 }
 {
     if v == end {
         return 0;
     }
-    key_at(top, low, v) + 1638401 * b
+    key_at(top, low, v) + turn_from(axis)
 }
 
 // The key of v by a step of length w in direction d to a crossing of key c, where there is one.
-fn through(steps: &[u8], d: usize, v: usize, w: u64, c: u64) -> u64
+#[tactic(auto, unfolding(crate::specs::inner::Keys::through))]
+fn through(steps: &[u8], d: Direction, v: usize, w: u64, c: u64) -> u64
     requires { (length steps.now ≡ 4356) × (v < 4356) × (w ≤ 65535) × (c < 300000000000000) }
-    ensures { result ≡ through steps.now d v w c }
+    ensures { result ≡ through steps.now (code d) v w c }
 {
-    if 4356 <= neighbour(steps, d, v) {
-        return 281470681743360;
+    match neighbour(steps, d, v) {
+        Some(_) => 65536 * w + c,
+        None => 281470681743360,
     }
-    65536 * w + c
 }
 
 // The key that is carried on to v, over a gap of w, from the key c of the crossing behind it.
@@ -136,17 +117,17 @@ fn carry_on(
     end: usize,
     top: &[u16],
     low: &[u16],
-    d: usize,
+    d: Direction,
     v: usize,
     w: u64,
     c: u64,
 ) -> u64
     requires { (length steps.now ≡ 4356) × (length top.now ≡ 4356) × (length low.now ≡ 8712) × (v < 4356) × (w ≤ 65535) × (c < 300000000000000) }
-    ensures value { result ≡ min (leave end (key_at top.now low.now) (axis_by d) v) (through steps.now d v w c) }
+    ensures value { result ≡ min (leave end (key_at top.now low.now) (axis_by (code d)) v) (through steps.now (code d) v w c) }
     ensures small { result < 300000000000000 }
 {
     let on = through(steps, d, v, w, c);
-    lower64(leave(top, low, end, axis_by(d), v), on)
+    leave(top, low, end, d.axis(), v).min(on)
 }
 
 // The key of the m-th crossing of a line after a step along the line, by paths that go on in direction d.
@@ -157,27 +138,25 @@ pub fn line_key(
     end: usize,
     top: &[u16],
     low: &[u16],
-    d: usize,
+    d: Direction,
     line: usize,
     n: usize,
     m: usize,
 ) -> u64
     requires lines { (length xs.now ≡ 194) × (length ys.now ≡ 194) × (length steps.now ≡ 4356) }
-    requires keys { (length top.now ≡ 4356) × (length low.now ≡ 8712) × (d ≤ 3) × (line < 66) × (n ≤ 66) × (m ≤ n) }
-    ensures value { result ≡ line_key (lanes xs.now ys.now steps.now end) (key_at top.now low.now) d line n m }
+    requires keys { (length top.now ≡ 4356) × (length low.now ≡ 8712) × (line < 66) × (n ≤ 66) × (m ≤ n) }
+    ensures value { result ≡ line_key (lanes xs.now ys.now steps.now end) (key_at top.now low.now) (code d) line n m }
     ensures small { result < 300000000000000 }
 {
     let mut c = 281470681743360;
-    let mut k = 0;
-    while k < m {
+    for k in 0..m {
         let v = on_line(d, line, n, k);
         c = carry_on(steps, end, top, low, d, v, gap_on(xs, ys, d, n, k), c);
-        k += 1;
     }
     c
 }
 
-// One pass along a line of n crossings; answers how many keys became less. A turn adds 25 × 65,536 + 1 to a key.
+// One pass along a line of n crossings; answers how many keys became less.
 fn pass(
     blocks: &[u16],
     xs: &[u16],
@@ -186,26 +165,24 @@ fn pass(
     ny: usize,
     steps: &[u8],
     end: usize,
-    d: usize,
+    d: Direction,
     line: usize,
     n: usize,
     top: &mut [u16],
     low: &mut [u16],
 ) -> usize
     requires tables { (Ruled xs.now nx ys.now ny) × (Charted blocks.now (ruled xs.now nx ys.now ny) steps.now 4356) }
-    requires keys { (Fair (net blocks.now (ruled xs.now nx ys.now ny)) end top.old low.old) × (d ≤ 3) × (line < 66) × (n ≤ 66) }
+    requires keys { (Fair (net blocks.now (ruled xs.now nx ys.now ny)) end top.old low.old) × (line < 66) × (n ≤ 66) }
     ensures { Passed (net blocks.now (ruled xs.now nx ys.now ny)) (lanes xs.now ys.now steps.now end)
-        d line n top.old low.old top.new low.new result }
+        (code d) line n top.old low.old top.new low.new result }
 {
-    let turn = 1638401 * axis_by(d);
+    let turn = turn_from(d.axis());
     let mut moved = 0;
     let mut c = 281470681743360;
-    let mut k = 0;
-    while k < n {
+    for k in 0..n {
         let v = on_line(d, line, n, k);
         c = carry_on(steps, end, top, low, d, v, gap_on(xs, ys, d, n, k), c);
-        moved += improve(top, low, v, c + turn);
-        k += 1;
+        moved += usize::from(improve(top, low, v, c + turn));
     }
     moved
 }
@@ -219,22 +196,20 @@ fn sweep(
     ny: usize,
     steps: &[u8],
     end: usize,
-    d: usize,
+    d: Direction,
     m: usize,
     n: usize,
     top: &mut [u16],
     low: &mut [u16],
 ) -> usize
     requires tables { (Ruled xs.now nx ys.now ny) × (Charted blocks.now (ruled xs.now nx ys.now ny) steps.now 4356) }
-    requires keys { (Fair (net blocks.now (ruled xs.now nx ys.now ny)) end top.old low.old) × (d ≤ 3) × (m ≤ 66) × (n ≤ 66) }
+    requires keys { (Fair (net blocks.now (ruled xs.now nx ys.now ny)) end top.old low.old) × (m ≤ 66) × (n ≤ 66) }
     ensures { Swept (net blocks.now (ruled xs.now nx ys.now ny)) (lanes xs.now ys.now steps.now end)
-        d m n top.old low.old top.new low.new result }
+        (code d) m n top.old low.old top.new low.new result }
 {
     let mut moved = 0;
-    let mut line = 0;
-    while line < m {
+    for line in 0..m {
         moved += pass(blocks, xs, nx, ys, ny, steps, end, d, line, n, top, low);
-        line += 1;
     }
     moved
 }
@@ -256,10 +231,62 @@ fn round(
     ensures { Rounded (net blocks.now (ruled xs.now nx ys.now ny)) (lanes xs.now ys.now steps.now end)
         nx ny top.old low.old top.new low.new result }
 {
-    let west = sweep(blocks, xs, nx, ys, ny, steps, end, 0, ny, nx, top, low);
-    let east = sweep(blocks, xs, nx, ys, ny, steps, end, 3, ny, nx, top, low);
-    let south = sweep(blocks, xs, nx, ys, ny, steps, end, 1, nx, ny, top, low);
-    let north = sweep(blocks, xs, nx, ys, ny, steps, end, 2, nx, ny, top, low);
+    let west = sweep(
+        blocks,
+        xs,
+        nx,
+        ys,
+        ny,
+        steps,
+        end,
+        Direction::West,
+        ny,
+        nx,
+        top,
+        low,
+    );
+    let east = sweep(
+        blocks,
+        xs,
+        nx,
+        ys,
+        ny,
+        steps,
+        end,
+        Direction::East,
+        ny,
+        nx,
+        top,
+        low,
+    );
+    let south = sweep(
+        blocks,
+        xs,
+        nx,
+        ys,
+        ny,
+        steps,
+        end,
+        Direction::South,
+        nx,
+        ny,
+        top,
+        low,
+    );
+    let north = sweep(
+        blocks,
+        xs,
+        nx,
+        ys,
+        ny,
+        steps,
+        end,
+        Direction::North,
+        nx,
+        ny,
+        top,
+        low,
+    );
     west + east + south + north
 }
 
