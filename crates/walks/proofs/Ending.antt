@@ -1,5 +1,5 @@
 -- The net of the lines: its table of steps, the keys before the search, and what the search for a path answers.
-use mathlib.Core.Path.{◌≡◌, refl, sym, ap, ◌∙◌}
+use mathlib.Core.Path.{◌≡◌, sym, ap, ◌∙◌}
 use mathlib.Core.Bool.{Bool, true, false, not}
 use mathlib.Core.List.{List, [], ◌∷◌}
 use Prim.Native.Nat.{ℕ, ◌+◌, ◌*◌, ◌/◌, ◌≤◌, ◌<◌}
@@ -23,6 +23,7 @@ use Rattle.crossings.proofs.Sizes.{reach_most, net_sized}
 use Rattle.crossings.proofs.Directions.{step_only, step_opposite}
 use Rattle.sweeps.specs.inner.Keys.{key_at, unreached, lanes, Fair, Searched, Opened}
 use Rattle.sweeps.proofs.Mapping.{leads_of}
+use Rattle.std.specs.Prelude.{None, Some}
 use Rattle.walks.specs.inner.Paths.{Outcoming}
 use Rattle.walks.specs.inner.Labels.{label_at, Trailed}
 use Rattle.walks.proofs.Labelling.{Inside, Mapped}
@@ -102,14 +103,13 @@ module _ (blocks xs : List ℕ) (nx : ℕ) (ys : List ℕ) (ny : ℕ) (rule : Ru
     end_stop e k h = rw (place_of_crossing xs nx ys ny rule end ec ∙ sym e) (told k h)
 
     pub not_clear : {start : ℕ} {p : Point} {t : Bool} {trail : List ℕ} {size : ℕ} → p ≡ spot xs ys end → Tells (Clear blocks p p) t → not t ≡ true → size ≡ 8712 → length trail ≡ 4356
-        → Outcoming G start end trail size 0 0
+        → Outcoming G start end trail size None
     unfolding net
     not_clear e k h s u =
         record {
           list_size = s;
           trail_size = u;
-          no_way = λ q vs path. denied k h (rw (place_of_crossing xs nx ys ny rule end ec ∙ sym e) at (path_stop path));
-          way = λ n. absurd (n refl);
+          outcome = λ vs path. denied k h (rw (place_of_crossing xs nx ys ny rule end ec ∙ sym e) at (path_stop path));
         }
 
     weight_most : (a v u : ℕ) → Stepping blocks g v u → weight G a v u ≤ 2149056513
@@ -126,8 +126,8 @@ module _ (blocks xs : List ℕ) (nx : ℕ) (ys : List ℕ) (ny : ℕ) (rule : Ru
       abbrev L : ℕ → ℕ → ℕ
       L = label_at (lanes xs ys steps end) nx (key_at top low)
 
-      pub not_reached : {trail : List ℕ} {size : ℕ} → unreached ≤ key → size ≡ 8712 → length trail ≡ 4356 → Outcoming G start end trail size 0 0
-      not_reached h s u = record { list_size = s; trail_size = u; no_way = λ q vs path. none vs path; way = λ n. absurd (n refl) }
+      pub not_reached : {trail : List ℕ} {size : ℕ} → unreached ≤ key → size ≡ 8712 → length trail ≡ 4356 → Outcoming G start end trail size None
+      not_reached h s u = record { list_size = s; trail_size = u; outcome = λ vs path. none vs path }
         where
           none : (vs : List ℕ) → Path G end start vs → ⊥
           none vs path =
@@ -138,11 +138,10 @@ module _ (blocks xs : List ℕ) (nx : ℕ) (ys : List ℕ) (ny : ℕ) (rule : Ru
               let m = key_most 2 w.1 in
               omega (arith, w.2)
 
-      pub outcome : {n : ℕ} {trail : List ℕ} {size : ℕ} → Trailed G start end (L 2 start) trail n → size ≡ 8712 → Outcoming G start end trail size n (key / 65536)
+      pub outcome : {n : ℕ} {trail : List ℕ} {size : ℕ} → Trailed G start end (L 2 start) trail n → size ≡ 8712 → Outcoming G start end trail size (Some (record { count = n; cost = key / 65536 }))
       outcome t s =
           record {
             list_size = s;
             trail_size = t.sized;
-            no_way = λ q. absurd (omega (arith, t.some));
-            way = λ m. record { fits = t.fits; best = t.best; price_is = t.price ∙ ap (λ (k : ℕ). k / 65536) (sym ke); within = t.within };
+            outcome = record { some = t.some; fits = t.fits; best = t.best; price_is = t.price ∙ ap (λ (k : ℕ). k / 65536) (sym ke); within = t.within };
           }

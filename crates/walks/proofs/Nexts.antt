@@ -1,7 +1,13 @@
 -- The lowest next crossing by the labels, found by trying the directions in order.
 use mathlib.Core.Path.{◌≡◌, refl, sym, ap, ◌∙◌, subst}
-use mathlib.Core.List.{List}
-use Prim.Native.Nat.{ℕ, ◌+◌, ◌*◌, ◌≤◌, ◌<◌}
+use mathlib.Core.List.{List, [], ◌∷◌}
+use lib.ListN.{get_or}
+use Rattle.std.specs.Prelude.{Option, None, Some}
+use Rattle.crossings.specs.declared.Axis.{Axis}
+use Rattle.crossings.specs.declared.Axis.TheVariants.{NorthSouth, EastWest}
+use Rattle.crossings.specs.declared.Direction.TheVariants.{West, South, North}
+use Rattle.crossings.specs.inner.Directions.{code}
+use Prim.Native.Nat.{ℕ, zero, suc, ◌+◌, ◌*◌, ◌≤◌, ◌<◌}
 use native.Mathlib.Omega.{arith}
 use native.Mathlib.Decide.{dec_lt}
 use Rattle.nets.specs.Net.{Net, Path, arrive, onward, turn}
@@ -11,7 +17,7 @@ use Rattle.nets.proofs.Labels.{reached, first}
 use Rattle.crossings.specs.inner.Charts.{span, step_of, axis_by}
 use Rattle.sweeps.specs.inner.Keys.{key_at, unreached, Lanes, Searched}
 use Rattle.sweeps.proofs.Carrying.{Toward, west, south, north, east, Led}
-use Rattle.walks.specs.inner.Labels.{label_at, Leading, NextIs}
+use Rattle.walks.specs.inner.Labels.{before_code, label_at, Leading, NextIs}
 use Rattle.walks.proofs.Labelling.{Inside, Mapped, inside_below, weight_is, relaxed, label_attained}
 
 -- directions are in the order of the crossings that they lead to
@@ -20,6 +26,18 @@ rank (west e) = (omega arith, omega arith)
 rank (south e f) = (omega arith, omega arith)
 rank (north e f) = (omega arith, omega arith)
 rank (east e) = (omega arith, omega arith)
+
+-- the order in which they are tried
+pub in_order : {i : ℕ} → i < 3 → code (get_or (West ∷ South ∷ North ∷ []) i West) ≡ i
+in_order {i = zero} l = refl
+in_order {i = suc zero} l = refl
+in_order {i = suc (suc zero)} l = refl
+in_order {i = suc (suc (suc i))} l = absurd (omega arith)
+
+pub before_small : (b : Option Axis) → before_code b ≤ 2
+before_small None = omega arith
+before_small (Some NorthSouth) = omega arith
+before_small (Some EastWest) = omega arith
 
 module _ {G : Net} {F : Lanes} {nx ny : ℕ} (m : Mapped G F nx ny) (z : Sized G 4356) {top low : List ℕ} (s : Searched G F nx ny top low) (ei : Inside nx ny F.end) where
   abbrev L : ℕ → ℕ → ℕ

@@ -11,6 +11,8 @@ use Rattle.nets.specs.inner.Keys.{key_from, Attained, Relaxed}
 use Rattle.nets.proofs.Sums.{key_more, key_cost, changes_few}
 use Rattle.nets.proofs.Cuts.{Sized}
 use Rattle.nets.proofs.Labels.{Walk, stop, move, reached, walk_path, walk_key, walk_best, short, weight_up}
+use Rattle.std.specs.Prelude.{Option, Some}
+use Rattle.crossings.specs.inner.Directions.{Target}
 use Rattle.crossings.specs.inner.Charts.{step_of, axis_by}
 use Rattle.crossings.proofs.Directions.{step_at}
 use Rattle.sweeps.specs.inner.Keys.{key_at, unreached, Lanes, Searched}
@@ -55,6 +57,10 @@ path_two n (onward s p) = omega (arith, path_one p)
 
 pub on_line_lem : {x u n : ℕ} → x ≡ u → u / 66 < n → x / 66 < n
 on_line_lem e l = rw e l
+
+-- the crossing that a step leads to, where there is one
+pub led_to : {o : Option ℕ} {n u : ℕ} → Target o n → o ≡ Some u → u ≡ n
+led_to t e = (rw e at t).0
 
 -- n crossings are kept, the last of them v, which a step along a led to
 pub record Going (G : Net) (F : Lanes) (nx ny : ℕ) (L : ℕ → ℕ → ℕ) (start : ℕ) (trail : List ℕ) (v a key n : ℕ) : Type 0 where

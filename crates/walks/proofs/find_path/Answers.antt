@@ -1,7 +1,8 @@
 use Rattle.crossings.proofs.Charts.{crossing_east, crossing_north, in_grid, spot_in_range}
 use Rattle.walks.proofs.Ending.{fair_start, end_stop, not_clear, not_reached}
 use Rattle.walks.proofs.find_path.Goals as goal
-use mathlib.Core.Path.{ap}
+use mathlib.Core.Path.{ap, ◌∙◌}
+use lib.ListN.{length-map}
 use mathlib.Core.Bool.{not}
 
 pub is_clear_place-requires : goal.is_clear_place-requires
@@ -10,12 +11,12 @@ is_clear_place-requires c = let r = c.requires.lines.1 in let e = c.requires.end
     (c.requires.lines.0, n)
 
 pub returns-then-not-is_clear_place : goal.returns-then-not-is_clear_place
-returns-then-not-is_clear_place c = let r = c.requires.lines.1 in let e = c.requires.ends.1 in not_clear _ _ _ _ _ r e c.spot-p.ensures c.is_clear_place.ensures (ap not c.if-not-is_clear_place.true) c.requires.lists.0 c.requires.lists.1
+returns-then-not-is_clear_place c = let r = c.requires.lines.1 in let e = c.requires.ends.1 in not_clear _ _ _ _ _ r e c.spot-p.ensures c.is_clear_place.ensures (ap not c.if-not-is_clear_place.true) c.requires.lists.0 (length-map _ _ ∙ c.requires.lists.1)
 
 pub search-requires-clause-keys : goal.search-requires-clause-keys
 search-requires-clause-keys c =
     let r = c.requires.lines.1 in let e = c.requires.ends.1 in
     fair_start c.open_keys.ensures (in_grid _ _ _ _ r _ e) (end_stop _ _ _ _ _ r e c.spot-p.ensures c.is_clear_place.ensures (ap not c.if-not-is_clear_place.false))
 
-pub returns-then-key-ge281470681743360 : goal.returns-then-key-ge281470681743360
-returns-then-key-ge281470681743360 c = let r = c.requires.lines.1 in let e = c.requires.ends.1 in not_reached _ _ _ _ _ r e c.chart.ensures c.search.ensures _ c.label-key.ensures.value c.if-key-ge281470681743360.true c.search.ensures.fair.low_sized c.requires.lists.1
+pub returns-then-key-ge-UNREACHED : goal.returns-then-key-ge-UNREACHED
+returns-then-key-ge-UNREACHED c = let r = c.requires.lines.1 in let e = c.requires.ends.1 in not_reached _ _ _ _ _ r e c.chart.ensures c.search.ensures _ c.label-key.ensures.value c.if-key-ge-UNREACHED.true c.search.ensures.fair.low_sized (length-map _ _ ∙ c.requires.lists.1)

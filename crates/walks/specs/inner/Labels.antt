@@ -1,11 +1,18 @@
 -- The labels that the keys stand for, and the walk by them.
-use Rattle.std.specs.Prelude.{◌≡◌, cond, List, ℕ, suc, ◌+◌, ◌*◌, ◌-◌, ◌/◌, ◌%◌, ◌≤◌, ◌<◌, min, eqb, length, take}
+use Rattle.std.specs.Prelude.{◌≡◌, cond, List, ℕ, suc, ◌+◌, ◌*◌, ◌-◌, ◌/◌, ◌%◌, ◌≤◌, ◌<◌, min, eqb, length, take, Option, None, Some}
 use Rattle.geometry.specs.Words.{word}
-use Rattle.nets.specs.Net.{Net, turn, IsBest, cost}
+use Rattle.crossings.specs.declared.Axis.{Axis}
+use Rattle.crossings.specs.inner.Directions.{axis_code}
+use Rattle.nets.specs.Net.{Net, unmoved, turn, IsBest, cost}
 use Rattle.nets.specs.inner.Keys.{Tight}
 use Rattle.crossings.specs.inner.Charts.{span, step_of}
 use Rattle.sweeps.specs.inner.Keys.{Lanes, line_key}
 use Rattle.walks.specs.inner.Paths.{visits}
+
+-- the number of the axis of the step before, or that there was none
+abbrev pub before_code : Option Axis → ℕ
+before_code None = unmoved
+before_code (Some a) = axis_code a
 
 -- the least key of v after a step east or west, by the lines of nx crossings
 unfoldable pub across : Lanes → ℕ → (ℕ → ℕ) → ℕ → ℕ

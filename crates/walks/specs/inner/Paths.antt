@@ -1,6 +1,7 @@
 -- How the best path is kept: its steps, a byte each.
-use Rattle.std.specs.Prelude.{◌≡◌, cond, List, [], ◌∷◌, ℕ, ◌+◌, ◌-◌, ◌≤◌, ◌<◌, eqb, length, take}
+use Rattle.std.specs.Prelude.{◌≡◌, cond, List, [], ◌∷◌, ℕ, ◌+◌, ◌-◌, ◌≤◌, ◌<◌, eqb, length, take, Option, MatchOption}
 use Rattle.geometry.specs.Words.{word}
+use Rattle.walks.specs.declared.Found.{Found}
 use Rattle.nets.specs.Net.{Net, cost, IsBest, NoPath}
 
 -- a step as one byte: 0 west, 1 south, 2 north, 3 east
@@ -15,14 +16,14 @@ visits v (d ∷ ds) = v ∷ visits (moved_by d v) ds
 
 -- the path that a trail keeps is the best and has n crossings
 pub record Kept (G : Net) (start end : ℕ) (trail : List ℕ) (n price : ℕ) : Type 0 where
+  pub some : 1 ≤ n
   pub fits : n ≤ 4356
   pub best : IsBest G start end (visits start (take (n - 1) trail))
   pub price_is : cost G (visits start (take (n - 1) trail)) ≡ price
   pub within : (i : ℕ) → i < n → word (visits start (take (n - 1) trail)) i < 4356
 
 -- what the search for a path answers and leaves
-pub record Outcoming (G : Net) (start end : ℕ) (trail : List ℕ) (size n price : ℕ) : Type 0 where
+pub record Outcoming (G : Net) (start end : ℕ) (trail : List ℕ) (size : ℕ) (found : Option Found) : Type 0 where
   pub list_size : size ≡ 8712
   pub trail_size : length trail ≡ 4356
-  pub no_way : n ≡ 0 → NoPath G start end
-  pub way : (n ≡ 0 → ⊥) → Kept G start end trail n price
+  pub outcome : MatchOption found (NoPath G start end) (λ f. Kept G start end trail f.count f.cost)
