@@ -4,44 +4,21 @@ use mathlib.Core.List.{List, [], ◌∷◌, ◌++◌}
 use Prim.Native.Nat.{ℕ, suc, ◌+◌, ◌*◌, ◌-◌, ◌/◌, ◌%◌, ◌≤◌, ◌<◌}
 use native.Mathlib.Omega.{arith}
 use native.Mathlib.Numerals.{add-one}
-use lib.ListN.{length, take, set, length-set, length-take, length-replicate}
+use Rattle.crossings.specs.declared.Direction.{Direction}
+use Rattle.crossings.specs.declared.Direction.TheVariants.{West}
+use Rattle.crossings.specs.inner.Directions.{code}
+use Rattle.std.specs.Prelude.{map}
+use lib.ListN.{length, take, set, get_or, get_or-map, length-set, length-take, length-replicate}
 use lib.Seq.{take-suc, take_all}
-use borrow.Author.Tests.{eq-eqb, ne_eqb}
 use Rattle.geometry.specs.Words.{word}
 use Rattle.lists.specs.inner.Filled.{filled}
 use Rattle.walks.specs.inner.Paths.{moved_by, visits}
 use Rattle.ducts.specs.inner.Written.{spot_words}
 use Rattle.ducts.proofs.Visits.{visits_first, path_length, next_at_lem}
 
--- the four bytes
-moved_0 : (d v : ℕ) → d ≡ 0 → moved_by d v ≡ v - 66
-unfolding moved_by
-moved_0 d v e = rw (eq-eqb d 0 e)
-
-moved_1 : (d v : ℕ) → (d ≡ 0 → ⊥) → d ≡ 1 → moved_by d v ≡ v - 1
-unfolding moved_by
-moved_1 d v a e = rw (ne_eqb d 0 a, eq-eqb d 1 e)
-
-module _ (d v : ℕ) where
-  pub moved_west_edge : d ≡ 0 → v < 66 → 0 ≡ moved_by d v
-  moved_west_edge e l = omega (arith, moved_0 d v e)
-
-  pub moved_west_is : d ≡ 0 → v - 66 ≡ moved_by d v
-  moved_west_is e = sym (moved_0 d v e)
-
-  pub moved_south_edge : (d ≡ 0 → ⊥) → d ≡ 1 → v < 1 → 0 ≡ moved_by d v
-  moved_south_edge a e l = omega (arith, moved_1 d v a e)
-
-  pub moved_south_is : (d ≡ 0 → ⊥) → d ≡ 1 → v - 1 ≡ moved_by d v
-  moved_south_is a e = sym (moved_1 d v a e)
-
-  pub moved_north_is : (d ≡ 0 → ⊥) → (d ≡ 1 → ⊥) → d ≡ 2 → v + 1 ≡ moved_by d v
-  unfolding moved_by
-  moved_north_is a b e = rw (ne_eqb d 0 a, ne_eqb d 1 b, eq-eqb d 2 e)
-
-  pub moved_east_is : (d ≡ 0 → ⊥) → (d ≡ 1 → ⊥) → (d ≡ 2 → ⊥) → v + 66 ≡ moved_by d v
-  unfolding moved_by
-  moved_east_is a b e = rw (ne_eqb d 0 a, ne_eqb d 1 b, ne_eqb d 2 e)
+-- a step of the trail
+pub move_is : (trail : List Direction) (i v r : ℕ) → r ≡ moved_by (code (get_or trail i West)) v → r ≡ moved_by (word (map code trail) i) v
+move_is trail i v r e = e ∙ ap (λ (d : ℕ). moved_by d v) (sym (get_or-map code trail i West))
 
 filled_length : (n : ℕ) → length (filled n 0) ≡ n
 unfolding filled

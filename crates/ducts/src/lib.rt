@@ -1,46 +1,43 @@
 // The quote of a duct: the best path of a run along the lines through every corner and its two ends.
 #![tactic(auto)]
 
-ghost use Rattle.std.specs.Prelude.{◌≡◌, cond, [], ◌∷◌, ◌++◌, ℕ, ◌+◌, ◌*◌, ◌-◌, ◌/◌, ◌%◌, ◌<◌, ◌≤◌, ltb, length, take, set};
+ghost use Rattle.std.specs.Prelude.{◌≡◌, [], ◌∷◌, ◌++◌, ℕ, ◌+◌, ◌*◌, ◌-◌, ◌/◌, ◌%◌, ◌<◌, ◌≤◌, length, take, set, map};
 ghost use Rattle.lists.specs.inner.Filled.{filled};
+ghost use Rattle.refusals.specs.Numbers.{answer_of};
 ghost use Rattle.geometry.specs.Words.{word};
 ghost use Rattle.geometry.specs.inner.Bounds.{Bounded};
 ghost use Rattle.tables.specs.Tables.{stored};
 ghost use Rattle.tables.specs.inner.Fit.{Fit};
 ghost use Rattle.crossings.specs.Grid.{Crossing};
 ghost use Rattle.crossings.specs.inner.Charts.{ruled, Ruled};
+ghost use Rattle.crossings.specs.inner.Directions.{code};
 ghost use Rattle.walks.specs.inner.Paths.{moved_by, visits};
-ghost use Rattle.ducts.specs.Quote.{QuoteIs, DuctIs, standing, duct_answer, DuctQuoted};
+ghost use Rattle.ducts.specs.Quote.{QuoteIs, DuctIs, standing, duct_lengths, duct_answer, DuctQuoted};
 ghost use Rattle.ducts.specs.inner.Written.{spot_words};
 
-use crossings::crossing_at;
+use crossings::{Direction, crossing_at};
 use lines::lines_of;
 use lists::fill16;
 use records::records_right;
+use refusals::Refusal;
 use tables::place_of;
 use walks::find_path;
 
-// The crossing that the step of a byte leads to.
-fn moved(v: usize, d: u8) -> usize
+// Ducts are quoted for yards of at most so many blocks.
+const MOST_BLOCKS: usize = 8;
+
+// The crossing that a step leads to.
+#[tactic(auto, unfolding(walks::specs::inner::Paths::moved_by))]
+fn moved(v: usize, d: Direction) -> usize
     requires { v < 4356 }
-    ensures { result ≡ moved_by d v }
+    ensures { result ≡ moved_by (code d) v }
 {
-    if d == 0 {
-        if v < 66 {
-            return 0;
-        }
-        return v - 66;
+    match d {
+        Direction::West => v.saturating_sub(66),
+        Direction::South => v.saturating_sub(1),
+        Direction::North => v + 1,
+        Direction::East => v + 66,
     }
-    if d == 1 {
-        if v < 1 {
-            return 0;
-        }
-        return v - 1;
-    }
-    if d == 2 {
-        return v + 1;
-    }
-    v + 66
 }
 
 // Writes crossing v as the k-th of a path.
@@ -53,18 +50,23 @@ fn put_crossing(xs: &[u16], ys: &[u16], v: usize, k: usize, crossings: &mut [u16
 }
 
 // Writes the n crossings of the path that the trail keeps.
-fn write_path(xs: &[u16], ys: &[u16], trail: &[u8], n: usize, start: usize, crossings: &mut [u16])
+fn write_path(
+    xs: &[u16],
+    ys: &[u16],
+    trail: &[Direction],
+    n: usize,
+    start: usize,
+    crossings: &mut [u16],
+)
     requires lists { (length xs.now ≡ 194) × (length ys.now ≡ 194) × (length trail.now ≡ 4356) × (crossings.old ≡ filled 8712 0) }
-    requires path { (1 ≤ n) × (n ≤ 4356) × ((i : ℕ) → i < n → word (visits start (take (n - 1) trail.now)) i < 4356) }
-    ensures { crossings.new ≡ spot_words xs.now ys.now (visits start (take (n - 1) trail.now)) ++ filled (8712 - 2 * n) 0 }
+    requires path { (1 ≤ n) × (n ≤ 4356) × ((i : ℕ) → i < n → word (visits start (take (n - 1) (map code trail.now))) i < 4356) }
+    ensures { crossings.new ≡ spot_words xs.now ys.now (visits start (take (n - 1) (map code trail.now))) ++ filled (8712 - 2 * n) 0 }
 {
     put_crossing(xs, ys, start, 0, crossings);
     let mut v = start;
-    let mut k = 1;
-    while k < n {
+    for k in 1..n {
         v = moved(v, trail[k - 1]);
         put_crossing(xs, ys, v, k, crossings);
-        k += 1;
     }
 }
 
@@ -74,51 +76,47 @@ fn standing(blocks: &[u16]) -> usize
     ensures { result ≡ standing blocks.now 24 }
 {
     let mut count = 0;
-    let mut n = 0;
-    while n < 24 {
-        count += stands(blocks, n);
-        n += 1;
+    for n in 0..24 {
+        count += usize::from(0 < blocks[17 * n]);
     }
     count
 }
 
-fn stands(blocks: &[u16], n: usize) -> usize
-    requires { (length blocks.now ≡ 408) × (n < 24) }
-    ensures { result ≡ cond (ltb 0 (word blocks.now (17 * n))) 1 0 }
+// Question 1.
+#[tactic(auto, unfolding(crate::specs::Quote::duct_lengths))]
+fn lengths_right(blocks: &[u16], runs: &[u16], quote: &[u32], crossings: &[u16]) -> bool
+    ensures { result ≡ duct_lengths (stored blocks.now runs.now) quote.now crossings.now }
 {
-    if 0 < blocks[17 * n] { 1 } else { 0 }
+    blocks.len() == 408 && runs.len() == 121 && quote.len() == 3 && crossings.len() == 8712
 }
 
 // The first question that is answered no.
-fn answer(blocks: &[u16], runs: &[u16], number: u32, quote: &[u32], crossings: &[u16]) -> u32
-    ensures { result ≡ duct_answer (stored blocks.now runs.now) number quote.now crossings.now }
+fn answer(
+    blocks: &[u16],
+    runs: &[u16],
+    number: u32,
+    quote: &[u32],
+    crossings: &[u16],
+) -> Result<(), Refusal>
+    ensures { answer_of result ≡ duct_answer (stored blocks.now runs.now) number quote.now crossings.now }
 {
-    if blocks.len() != 408 {
-        return 1;
-    }
-    if runs.len() != 121 {
-        return 1;
-    }
-    if quote.len() != 3 {
-        return 1;
-    }
-    if crossings.len() != 8712 {
-        return 1;
+    if !lengths_right(blocks, runs, quote, crossings) {
+        return Err(Refusal::WrongLengths);
     }
     if !records_right(blocks, runs) {
-        return 2;
+        return Err(Refusal::WrongRecords);
     }
     if 24 <= number {
-        return 3;
+        return Err(Refusal::NoSuchNumber);
     }
     let m = number as usize;
     if runs[5 * m] == 0 {
-        return 5;
+        return Err(Refusal::Absent);
     }
-    if 8 < standing(blocks) {
-        return 12;
+    if MOST_BLOCKS < standing(blocks) {
+        return Err(Refusal::TooManyBlocks);
     }
-    0
+    Ok(())
 }
 
 fn fill_quote(quote: &mut [u32], state: u32, cost: u32, count: u32)
@@ -147,16 +145,16 @@ fn quote_between(
     requires lists { (length quote.old ≡ 3) × (length crossings.old ≡ 8712) }
     ensures { QuoteIs blocks.now (ruled xs.now nx ys.now ny) start end quote.new crossings.new }
 {
-    let mut trail = [0u8; 4356];
+    let mut trail = [Direction::West; 4356];
     let found = find_path(blocks, xs, nx, ys, ny, start, end, crossings, &mut trail);
     fill16(crossings, 0);
-    let n = found.count;
-    if n == 0 {
-        fill_quote(quote, 2, 0, 0);
-        return;
+    match found {
+        Some(path) => {
+            write_path(xs, ys, &trail, path.count, start, crossings);
+            fill_quote(quote, 1, path.cost, path.count as u32);
+        }
+        None => fill_quote(quote, 2, 0, 0),
     }
-    write_path(xs, ys, &trail, n, start, crossings);
-    fill_quote(quote, 1, found.cost, n as u32);
 }
 
 // The quote of run m, of a yard of at most eight blocks.
@@ -181,14 +179,11 @@ pub fn quote_duct(
     number: u32,
     quote: &mut [u32],
     crossings: &mut [u16],
-) -> u32
+) -> Result<(), Refusal>
     ensures { DuctQuoted (stored blocks.now runs.now) number quote.old crossings.old
-        result quote.new crossings.new }
+        (answer_of result) quote.new crossings.new }
 {
-    let v = answer(blocks, runs, number, quote, crossings);
-    if v != 0 {
-        return v;
-    }
+    answer(blocks, runs, number, quote, crossings)?;
     price(blocks, runs, number as usize, quote, crossings);
-    0
+    Ok(())
 }
