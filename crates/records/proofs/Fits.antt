@@ -1,14 +1,12 @@
 -- Records that question 2 allows are what the layers under the calls ask.
-use mathlib.Core.Path.{◌≡◌, ap}
+use mathlib.Core.Path.{◌≡◌}
 use mathlib.Core.Logic.{◌⊎◌, inl, inr}
 use mathlib.Core.List.{List}
 use mathlib.Core.Bool.{Bool, true, ◌&&◌}
 use Prim.Native.Nat.{ℕ, ◌+◌, ◌*◌, ◌-◌, ◌/◌, ◌<◌, ◌≤◌}
 use native.Mathlib.Omega.{arith}
-use native.Mathlib.Decide.{ℕ_discrete}
 use lib.Dec.{leb, eqb}
-use lib.ListN.{length, drop, length-drop}
-use lib.Seq.{get_or-drop}
+use lib.ListN.{length, drop}
 use borrow.Author.Tests.{leb-true, eqb-true}
 use Rattle.geometry.specs.Words.{word, block_words, corners}
 use Rattle.geometry.specs.inner.Bounds.{BoundedRecord}
@@ -20,18 +18,7 @@ use Rattle.tables.specs.Tables.{Records, run_words, figure_of}
 use Rattle.tables.specs.inner.Fit.{Fit}
 use Rattle.tables.proofs.Splices.{part_length, word_in, block_first, run_first}
 use Rattle.records.specs.Questions.{coordinate_right, zero_from, block_right, run_right, figure_right, records_right}
-use Rattle.records.proofs.Loops.{right_bound, zero_word}
-
--- a word of the rest of a record
-rest_bound : (ws : List ℕ) (k : ℕ) → word ws 0 ≤ 32767 → all coordinate_right (drop 1 ws) ≡ true → k < length ws → word ws k ≤ 32767
-rest_bound ws k z a l = go (ℕ_discrete k 0)
-  where
-    go : Dec (k ≡ 0) → word ws k ≤ 32767
-    go (yes e) = rw e z
-    go (no e) =
-        let q : 1 + (k - 1) ≡ k = omega arith in
-        let b = right_bound (drop 1 ws) (k - 1) a (omega (arith, length-drop 1 ws)) in
-        omega (arith, get_or-drop 1 ws (k - 1) 0, ap (λ (x : ℕ). word ws x) q)
+use Rattle.records.proofs.Loops.{rest_bound, zero_word}
 
 -- what question 2 says of a standing block
 pub record StandingRecord (ws : List ℕ) : Type 0 where

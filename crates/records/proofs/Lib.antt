@@ -1,3 +1,4 @@
+pub mod All
 pub mod Loops
 pub mod Answers
 pub mod Fits

@@ -21,8 +21,7 @@ use Rattle.tables.specs.inner.Fit.{BoundedRun}
 use Rattle.tables.proofs.Places.{record_ext}
 use Rattle.tables.proofs.Splices.{places_length, place_words_length, block_record_length, corners_record, run_record_none, word_zeros}
 use Rattle.records.specs.Questions.{count_right, coordinate_right, place_right, lent_places, zero_from, block_right, run_right}
-use Rattle.records.proofs.Loops.{zero_word}
-use Rattle.records.proofs.Answers.{block_bounded}
+use Rattle.records.proofs.Loops.{block_bounded, zero_word}
 use Rattle.records.proofs.Filled.{count_facts}
 use Rattle.records.proofs.Fits.{StandingRecord, block_cases, run_cases}
 
@@ -92,9 +91,7 @@ module _ (ps : List Point) where
 
   pub corners_bounded : length ps ≤ 8 → all place_right ps ≡ true → BoundedRecord (block_record ps)
   unfolding block_record all
-  corners_bounded h r =
-      block_bounded (block_record ps) (block_record_length ps h) h
-      (and_yes (coordinate_right (length ps)) (all coordinate_right (place_words ps ++ pad)) (le-leb (length ps) 32767 (omega arith)) (pad_right r))
+  corners_bounded h r = block_bounded (block_record ps) (block_record_length ps h) h (pad_right r)
 
   standing_right : StandingCorners ps → block_right (block_record ps) ≡ true
   unfolding block_right block_record zero_from

@@ -12,93 +12,58 @@ use geometry::{Place, is_convex};
 use tables::figure_of;
 
 // Question 6: whether the lent words are 3 to 8 whole corners.
+#[tactic(auto, unfolding(crate::specs::Questions::count_right))]
 pub fn count_right(corners: &[u16]) -> bool
     ensures { result ≡ count_right corners.now }
 {
     let count = corners.len();
-    if count < 6 {
-        return false;
-    }
-    if 16 < count {
-        return false;
-    }
-    count % 2 == 0
+    6 <= count && count <= 16 && count % 2 == 0
 }
 
 // Question 7 of every word.
 pub fn coordinates_right(words: &[u16]) -> bool
     ensures { result ≡ all coordinate_right words.now }
 {
-    let mut i = 0;
-    while i < words.len() {
-        if 32767 < words[i] {
-            return false;
-        }
-        i += 1;
-    }
-    true
+    words.iter().all(|word| *word <= 32767)
 }
 
 // Question 7 of a place.
 pub fn place_right(p: Place) -> bool
     ensures { result ≡ place_right (point_of p) }
 {
-    if 32767 < p.east {
-        return false;
-    }
-    p.north <= 32767
+    p.east <= 32767 && p.north <= 32767
 }
 
-// Whether the words from a place on are 0.
-fn zero_from(words: &[u16], from: usize) -> bool
-    ensures { result ≡ zero_from words.now from }
+// Whether every word is 0.
+fn all_zero(words: &[u16]) -> bool
+    ensures { result ≡ zero_from words.now 0 }
 {
-    let mut i = from;
-    while i < words.len() {
-        if words[i] != 0 {
-            return false;
-        }
-        i += 1;
-    }
-    true
+    words.iter().all(|word| *word == 0)
 }
 
 // Question 2 of a block record.
+#[tactic(auto, using(crate::proofs::Loops::block_bounded), unfolding(crate::specs::Questions::block_right, crate::specs::Questions::zero_from))]
 fn block_right(words: &[u16]) -> bool
     requires { length words.now ≡ 17 }
     ensures { result ≡ block_right words.now }
 {
-    if zero_from(words, 0) {
+    if all_zero(words) {
         return true;
     }
-    let count = words[0] as usize;
-    if count < 3 {
+    let count = usize::from(words[0]);
+    if count < 3 || 8 < count {
         return false;
     }
-    if 8 < count {
-        return false;
-    }
-    if !zero_from(words, 1 + 2 * count) {
-        return false;
-    }
-    if !coordinates_right(words) {
-        return false;
-    }
-    is_convex(words)
+    all_zero(&words[1 + 2 * count..]) && coordinates_right(&words[1..]) && is_convex(words)
 }
 
 // Question 2 of a run record.
+#[tactic(auto, unfolding(crate::specs::Questions::run_right))]
 fn run_right(words: &[u16]) -> bool
     requires { length words.now ≡ 5 }
     ensures { result ≡ run_right words.now }
 {
-    if zero_from(words, 0) {
-        return true;
-    }
-    if words[0] != 1 {
-        return false;
-    }
-    coordinates_right(words)
+    all_zero(words) || words[0] == 1 && coordinates_right(&words[1..])
 }
 
 // Question 2 of the block table.
@@ -106,11 +71,8 @@ fn blocks_right(blocks: &[u16]) -> bool
     requires { length blocks.now ≡ 408 }
     ensures { result ≡ all_below 24 (λ n. block_right (block_words blocks.now n)) }
 {
-    let mut n = 0;
-    while n < 24 {
-        if block_right(&blocks[17 * n..17 * n + 17]) {
-            n += 1;
-        } else {
+    for n in 0..24 {
+        if !block_right(&blocks[17 * n..17 * n + 17]) {
             return false;
         }
     }
@@ -122,11 +84,8 @@ fn runs_right(runs: &[u16]) -> bool
     requires { length runs.now ≡ 121 }
     ensures { result ≡ all_below 24 (λ m. run_right (run_words runs.now m)) }
 {
-    let mut m = 0;
-    while m < 24 {
-        if run_right(&runs[5 * m..5 * m + 5]) {
-            m += 1;
-        } else {
+    for m in 0..24 {
+        if !run_right(&runs[5 * m..5 * m + 5]) {
             return false;
         }
     }
@@ -141,30 +100,22 @@ pub fn figure_right(figure: u64) -> bool
 }
 
 // Question 2.
+#[tactic(auto, unfolding(crate::specs::Questions::records_right))]
 pub fn records_right(blocks: &[u16], runs: &[u16]) -> bool
     requires { (length blocks.now ≡ 408) × (length runs.now ≡ 121) }
     ensures { result ≡ records_right (stored blocks.now runs.now) }
 {
-    if !blocks_right(blocks) {
-        return false;
-    }
-    if !runs_right(runs) {
-        return false;
-    }
-    figure_right(figure_of(runs))
+    blocks_right(blocks) && runs_right(runs) && figure_right(figure_of(runs))
 }
 
 // The record of a new block.
+#[tactic(auto, unfolding(crate::specs::Questions::count_right))]
 pub fn new_record(corners: &[u16]) -> [u16; 17]
     requires { count_right corners.now ≡ true }
     ensures { result ≡ block_record (lent_places corners.now) }
 {
     let mut made = [0u16; 17];
     made[0] = (corners.len() / 2) as u16;
-    let mut i = 0;
-    while i < corners.len() {
-        made[i + 1] = corners[i];
-        i += 1;
-    }
+    made[1..corners.len() + 1].copy_from_slice(corners);
     made
 }

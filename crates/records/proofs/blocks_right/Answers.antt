@@ -1,19 +1,13 @@
-use Rattle.records.proofs.Answers.{block_lent_length, block_answer}
-use Rattle.lists.proofs.Below.{all_none, all_next, all_done, all_failed}
-use native.Mathlib.Omega.{arith}
+use borrow.Author.Tests.{not-true, not-false}
+use Rattle.records.proofs.Answers.{block_answer}
+use Rattle.lists.proofs.Below.{all_none, all_next, all_failed}
 use Rattle.records.proofs.blocks_right.Goals as goal
 
 pub loop-n-init : goal.loop-n-init
-loop-n-init c = (omega arith, all_none _)
-
-pub block_right-requires : goal.block_right-requires
-block_right-requires c = search block_lent_length
+loop-n-init c = all_none _
 
 pub loop-n-preserved : goal.loop-n-preserved
-loop-n-preserved c = (omega arith, search (all_next, block_answer))
+loop-n-preserved c = search (all_next, block_answer, not-false)
 
-pub returns-else-block_right : goal.returns-else-block_right
-returns-else-block_right c = search (all_failed, block_answer)
-
-pub returns : goal.returns
-returns c = search all_done
+pub returns-then-not-block_right : goal.returns-then-not-block_right
+returns-then-not-block_right c = search (all_failed, block_answer, not-true)

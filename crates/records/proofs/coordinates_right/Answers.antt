@@ -1,15 +1,9 @@
-use Rattle.records.proofs.Loops.{right_none, right_next, right_all, right_fails}
-use native.Mathlib.Omega.{arith}
+use Prim.Native.Nat.{◌≤◌}
+use borrow.Author.Rules.{rules}
+use borrow.Author.Tests.{le-leb, leb-true}
+use Rattle.records.specs.Questions.{coordinate_right}
+use Rattle.records.proofs.All.{all_told}
 use Rattle.records.proofs.coordinates_right.Goals as goal
 
-pub loop-i-init : goal.loop-i-init
-loop-i-init c = (omega arith, right_none _)
-
-pub returns-then-words-i-gt32767 : goal.returns-then-words-i-gt32767
-returns-then-words-i-gt32767 c = search right_fails
-
-pub loop-i-preserved : goal.loop-i-preserved
-loop-i-preserved c = (omega arith, search right_next)
-
 pub returns : goal.returns
-returns c = search right_all
+returns c = all_told coordinate_right (λ x. x ≤ 32767) (λ x h. le-leb x 32767 h) (λ x h. leb-true x 32767 h) _ _ (search rules)
