@@ -10,38 +10,24 @@ ghost use Rattle.geometry.specs.inner.Bounds.{BoundedRecord};
 ghost use Rattle.tables.specs.Written.{block_record};
 ghost use Rattle.records.specs.Questions.{lands_right, shift_right, shifted};
 
-fn signed(by: i16) -> i64
-    ensures { result ≡ by }
-{
-    by as i64
-}
-
-fn add(a: i64, b: i64) -> i64
-    requires { SFits w64 (a +ℤ b) }
-    ensures { result ≡ a +ℤ b }
-{
-    a + b
-}
-
 // A coordinate moved by a displacement.
 fn moved(at: u16, by: i16) -> i64
     ensures { result ≡ pos at +ℤ by }
 {
-    add(geometry::wide(at), signed(by))
+    i64::from(at) + i64::from(by)
 }
 
 // Question 7 of a moved coordinate.
+#[tactic(auto, unfolding(records::specs::Questions::lands_right))]
 fn lands(at: u16, by: i16) -> bool
     ensures { result ≡ lands_right at by }
 {
     let to = moved(at, by);
-    if to < 0 {
-        return false;
-    }
-    to <= 32767
+    0 <= to && to <= 32767
 }
 
 // The coordinate where a moved one lands.
+#[tactic(auto, unfolding(records::specs::Questions::lands_right))]
 fn landing(at: u16, by: i16) -> u16
     requires { lands_right at by ≡ true }
     ensures { result ≡ nat_abs (pos at +ℤ by) }
@@ -54,16 +40,10 @@ pub fn shifts_right(words: &[u16], east: i16, north: i16) -> bool
     requires { BoundedRecord words.now }
     ensures { result ≡ all (shift_right east north) (corners words.now) }
 {
-    let count = words[0] as usize;
-    let mut k = 0;
-    while k < count {
-        if !lands(words[2 * k + 1], east) {
+    for k in 0..usize::from(words[0]) {
+        if !lands(words[2 * k + 1], east) || !lands(words[2 * k + 2], north) {
             return false;
         }
-        if !lands(words[2 * k + 2], north) {
-            return false;
-        }
-        k += 1;
     }
     true
 }
@@ -75,12 +55,9 @@ pub fn moved_record(words: &[u16], east: i16, north: i16) -> [u16; 17]
 {
     let mut made = [0u16; 17];
     made[0] = words[0];
-    let count = words[0] as usize;
-    let mut k = 0;
-    while k < count {
+    for k in 0..usize::from(words[0]) {
         made[2 * k + 1] = landing(words[2 * k + 1], east);
         made[2 * k + 2] = landing(words[2 * k + 2], north);
-        k += 1;
     }
     made
 }
