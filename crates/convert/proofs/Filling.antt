@@ -7,7 +7,6 @@ use native.Mathlib.Omega.{arith}
 use lib.ListN.{length, take, drop, replicate, length-append, length-drop, drop_of_length-le}
 use lib.Seq.{length-take-le}
 use borrow.Rule.Slice.PartMut.{put_mid}
-use Rattle.lists.specs.inner.Filled.{filled}
 use Rattle.yardfile.specs.File.{body_size}
 use Rattle.yardfile.proofs.Cases.{whole_fits}
 use Rattle.file_records.specs.Records.{next_at, rec_at, rec_bytes, bytes_of}
@@ -66,9 +65,8 @@ module _ (f : List ℕ) (v : ℕ) (old out : List ℕ) (at to : ℕ) (g : Fillin
         })
 
 -- zeros to the end
-pub cleared : (t part : List ℕ) (from : ℕ) → from ≤ length t → part ≡ filled (length (take (length t - from) (drop from t))) 0
+pub cleared : (t part : List ℕ) (from : ℕ) → from ≤ length t → part ≡ replicate (length (take (length t - from) (drop from t))) 0
     → put_mid from (length t - from) t part ≡ take from t ++ replicate (length t - from) 0
-unfolding filled
 cleared t part from h p =
     let e : length (take (length t - from) (drop from t)) ≡ length t - from = length-take-le (length t - from) (drop from t) (rw (length-drop from t) (omega arith)) in
     let none : drop (length t - from) (drop from t) ≡ [] = drop_of_length-le (drop from t) {i = length t - from} (rw (length-drop from t) (omega arith)) in

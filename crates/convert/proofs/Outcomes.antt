@@ -12,7 +12,6 @@ use Rattle.file_records.specs.Conversions.{converted, answer}
 use Rattle.file_records.specs.inner.Asked.{everyone}
 use Rattle.file_records.proofs.Trip.{Accepted, accepted}
 use Rattle.convert.specs.Convert.{padded, Converted, ConvertedInto}
-use Rattle.convert.specs.inner.Put.{SizePut}
 
 module _ (v w : ℕ) (f old : List ℕ) where
   pub refused_one : (length old ≡ 8192 → ⊥) → Converted v w f old old 1 0
@@ -48,15 +47,6 @@ module _ (v w : ℕ) (f : List ℕ) (n : ℕ) (e : n ≡ answer v w f) (z : n �
 pub taken_fits : (mid xs : List ℕ) (n : ℕ) → n ≡ length xs → take n mid ≡ xs → n ≤ length mid
 taken_fits mid xs n e h = omega (arith, length-take n mid, ap length h)
 
--- the length in a lent word
-pub size_kept : (n size : ℕ) (ws : List ℕ) → n ≡ 1 → SizePut n size ws ws
-size_kept n size ws e = record { kept = λ k. refl; put = λ k. absurd (k e) }
-
-pub size_put : (n size : ℕ) (ws : List ℕ) → length ws ≡ 1 → (n ≡ 1 → ⊥) → SizePut n size ws (set ws 0 size)
-size_put n size [] l k = absurd (omega arith)
-size_put n size (a ∷ []) l k = record { kept = λ e. absurd (k e); put = λ e. refl }
-size_put n size (a ∷ b ∷ ws) l k = absurd (omega arith)
-
 module _ (v w : ℕ) (f old before : List ℕ) where
   pub into_wrong : (length before ≡ 1 → ⊥) → ConvertedInto v w f old old before before 1
   into_wrong h =
@@ -79,11 +69,17 @@ module _ (v w : ℕ) (f old before : List ℕ) where
         go (yes z) = omega (arith, (c.done z).0, (accepted v w f (sized (ℕ_discrete (length old) 8192) z)).short)
         go (no z) = omega (arith, (c.refused z).0)
 
-    pub into_done : (after : List ℕ) → length before ≡ 1 → SizePut n size before after → ConvertedInto v w f old new before after n
-    into_done after l p =
+    pub into_done : (after : List ℕ) → length before ≡ 1 → (n ≡ 1 → after ≡ before) → ((n ≡ 1 → ⊥) → after ≡ size ∷ []) → ConvertedInto v w f old new before after n
+    into_done after l kept put =
         record {
           answered = rw (eq-eqb (length before) 1 l) c.answered;
-          done = λ z. (p.put (λ e. omega arith) ∙ ap (λ (x : ℕ). x ∷ []) (c.done z).0, (c.done z).1);
-          wrong = λ e. (p.kept e, (c.refused (λ z. omega arith)).1);
-          refused = λ z k. (p.put k ∙ ap (λ (x : ℕ). x ∷ []) (c.refused z).0, (c.refused z).1);
+          done = λ z. (put (λ e. omega arith) ∙ ap (λ (x : ℕ). x ∷ []) (c.done z).0, (c.done z).1);
+          wrong = λ e. (kept e, (c.refused (λ z. omega arith)).1);
+          refused = λ z k. (put k ∙ ap (λ (x : ℕ). x ∷ []) (c.refused z).0, (c.refused z).1);
         }
+
+-- the one lent word
+pub word_set : (ws : List ℕ) (a : ℕ) → length ws ≡ 1 → set ws 0 a ≡ a ∷ []
+word_set [] a l = absurd (omega arith)
+word_set (x ∷ []) a l = refl
+word_set (x ∷ y ∷ ws) a l = absurd (omega arith)

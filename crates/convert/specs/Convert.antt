@@ -1,10 +1,16 @@
 -- The contracts of shortening and lengthening a yard file into a lent buffer. Rule 47.
-use Rattle.std.specs.Prelude.{◌≡◌, List, [], ◌∷◌, ◌++◌, ◌&&◌, cond, ℕ, ◌-◌, eqb, length, replicate}
+use Rattle.std.specs.Prelude.{◌≡◌, List, [], ◌∷◌, ◌++◌, ◌&&◌, cond, ℕ, ◌-◌, eqb, length, replicate, Result, Ok, Err}
+use Rattle.refusals.specs.declared.Refusal.{Refusal}
 use Rattle.file_records.specs.Conversions.{converted, answer}
 
 -- the result with zeros after it, 8,192 bytes in all
 unfoldable pub padded : ℕ → List ℕ → List ℕ
 padded target f = converted target f ++ replicate (8192 - length (converted target f)) 0
+
+-- the length of a result, 0 if refused
+abbrev pub size_of : Result ℕ Refusal → ℕ
+size_of (Ok size) = size
+size_of (Err e) = 0
 
 -- the whole contract over a lent buffer: the number, 1 for a buffer of another size, and the result's length, 0 if refused; the buffer holds the
 -- result and zeros after it, and if refused it is kept

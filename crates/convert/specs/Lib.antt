@@ -1,2 +1,1 @@
 pub mod Convert
-pub mod inner

@@ -4,20 +4,13 @@
 ghost use Rattle.std.specs.Prelude.{◌≡◌, ◌++◌, true, ◌-◌, ◌≤◌, length, take, replicate};
 ghost use Rattle.file_records.specs.Conversions.{converted};
 ghost use Rattle.file_records.specs.inner.Asked.{everyone};
-ghost use Rattle.convert.specs.Convert.{Converted, ConvertedInto};
-ghost use Rattle.convert.specs.inner.Put.{SizePut};
+ghost use Rattle.convert.specs.Convert.{Converted, ConvertedInto, size_of};
+ghost use Rattle.refusals.specs.Numbers.{answer_of};
 
 use file_questions::first_failing;
 use file_writing::{write_head, write_record};
-use lists::fill8;
+use refusals::Refusal;
 use yardfile::body_size;
-
-// A conversion's answer: the number of the question that fails, or 0, and the length of the result.
-#[derive(Clone, Copy)]
-pub struct Conversion {
-    pub number: u32,
-    pub size: usize,
-}
 
 // Writes the whole result.
 fn write_file(file: &[u8], target: u8, out: &mut [u8]) -> usize
@@ -35,78 +28,71 @@ fn write_file(file: &[u8], target: u8, out: &mut [u8]) -> usize
     to
 }
 
-// Sets every byte from a position on to 0.
-fn clear(out: &mut [u8], from: usize)
-    requires { from ≤ length out.old }
-    ensures { out.new ≡ take from out.old ++ replicate (length out.old - from) 0 }
-{
-    let end = out.len();
-    fill8(&mut out[from..end], 0);
-}
-
-// Turns a file of the source version into one of the target version.
-fn convert(file: &[u8], source: u8, target: u8, buffer: &mut [u8]) -> Conversion
-    ensures { Converted source target file.now buffer.old buffer.new result.number result.size }
+// Turns a file of the source version into one of the target version: answers how many bytes the result has.
+fn convert(file: &[u8], source: u8, target: u8, buffer: &mut [u8]) -> Result<usize, Refusal>
+    ensures { Converted source target file.now buffer.old buffer.new (answer_of result) (size_of result) }
 {
     if buffer.len() != 8192 {
-        return Conversion { number: 1, size: 0 };
+        return Err(Refusal::WrongLengths);
     }
-    let number = first_failing(file, source, target);
-    if number != 0 {
-        return Conversion { number, size: 0 };
-    }
+    first_failing(file, source, target)?;
     let size = write_file(file, target, buffer);
-    clear(buffer, size);
-    Conversion { number: 0, size }
+    buffer[size..].fill(0);
+    Ok(size)
 }
 
 // Turns a file of version 1 into one of version 2.
-pub fn shorten(file: &[u8], buffer: &mut [u8]) -> Conversion
-    ensures { Converted 1 2 file.now buffer.old buffer.new result.number result.size }
+pub fn shorten(file: &[u8], buffer: &mut [u8]) -> Result<usize, Refusal>
+    ensures { Converted 1 2 file.now buffer.old buffer.new (answer_of result) (size_of result) }
 {
     convert(file, 1, 2, buffer)
 }
 
 // Turns a file of version 2 into one of version 1.
-pub fn lengthen(file: &[u8], buffer: &mut [u8]) -> Conversion
-    ensures { Converted 2 1 file.now buffer.old buffer.new result.number result.size }
+pub fn lengthen(file: &[u8], buffer: &mut [u8]) -> Result<usize, Refusal>
+    ensures { Converted 2 1 file.now buffer.old buffer.new (answer_of result) (size_of result) }
 {
     convert(file, 2, 1, buffer)
 }
 
-// Stores a conversion's length, unless a list had not its size.
-fn put_size(words: &mut [u32], number: u32, size: usize)
-    requires { (length words.old ≡ 1) × (size ≤ 8192) }
-    ensures { SizePut number size words.old words.new }
+// Converts, and stores the length of the result, unless a list had not its size.
+fn convert_into(
+    file: &[u8],
+    source: u8,
+    target: u8,
+    buffer: &mut [u8],
+    words: &mut [u32],
+) -> Result<(), Refusal>
+    ensures { ConvertedInto source target file.now buffer.old buffer.new words.old words.new (answer_of result) }
 {
-    if number == 1 {
-        return;
+    if words.len() != 1 {
+        return Err(Refusal::WrongLengths);
     }
-    words[0] = size as u32;
+    match convert(file, source, target, buffer) {
+        Ok(size) => {
+            words[0] = size as u32;
+            Ok(())
+        }
+        Err(refusal) => {
+            if let Refusal::WrongLengths = refusal {
+                return Err(refusal);
+            }
+            words[0] = 0;
+            Err(refusal)
+        }
+    }
 }
 
 // Shortens, and stores the length of the result.
-pub fn shorten_into(file: &[u8], buffer: &mut [u8], words: &mut [u32]) -> u32
-    ensures { ConvertedInto 1 2 file.now buffer.old buffer.new words.old words.new result }
+pub fn shorten_into(file: &[u8], buffer: &mut [u8], words: &mut [u32]) -> Result<(), Refusal>
+    ensures { ConvertedInto 1 2 file.now buffer.old buffer.new words.old words.new (answer_of result) }
 {
-    if words.len() != 1 {
-        return 1;
-    }
-    let c = shorten(file, buffer);
-    let number = c.number;
-    put_size(words, number, c.size);
-    number
+    convert_into(file, 1, 2, buffer, words)
 }
 
 // Lengthens, and stores the length of the result.
-pub fn lengthen_into(file: &[u8], buffer: &mut [u8], words: &mut [u32]) -> u32
-    ensures { ConvertedInto 2 1 file.now buffer.old buffer.new words.old words.new result }
+pub fn lengthen_into(file: &[u8], buffer: &mut [u8], words: &mut [u32]) -> Result<(), Refusal>
+    ensures { ConvertedInto 2 1 file.now buffer.old buffer.new words.old words.new (answer_of result) }
 {
-    if words.len() != 1 {
-        return 1;
-    }
-    let c = lengthen(file, buffer);
-    let number = c.number;
-    put_size(words, number, c.size);
-    number
+    convert_into(file, 2, 1, buffer, words)
 }

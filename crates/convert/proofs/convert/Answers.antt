@@ -1,17 +1,19 @@
-use Rattle.convert.proofs.Outcomes.{refused_one, refused_other, done_all, source_small, source_low, source_whole, result_fits, taken_fits}
+use Rattle.std.proofs.Common.{refl}
+use Rattle.convert.proofs.Filling.{cleared}
+use Rattle.convert.proofs.Outcomes.{refused_one, done_all, source_small, source_low, source_whole, result_fits, taken_fits}
 use Rattle.convert.proofs.convert.Goals as goal
 
 pub returns-then-buffer-ne8192 : goal.returns-then-buffer-ne8192
 returns-then-buffer-ne8192 c = search refused_one
 
-pub returns-then-number-ne0 : goal.returns-then-number-ne0
-returns-then-number-ne0 c = search refused_other
-
 pub write_file-size-requires : goal.write_file-size-requires
-write_file-size-requires c = (search source_small, search source_low, search source_whole, search result_fits)
-
-pub clear-requires : goal.clear-requires
-clear-requires c = search taken_fits
+write_file-size-requires c =
+    let e = c.in_ok-first_failing.ensures in
+    (source_small _ _ _ _ e refl, source_low _ _ _ _ e refl, source_whole _ _ _ _ e refl, result_fits _ _ _ _ e refl _ c.if-buffer-ne8192.false)
 
 pub returns : goal.returns
-returns c = search done_all
+returns c =
+    let k = c.write_file-size.ensures in
+    let e = c.in_ok-first_failing.ensures in
+    let z = cleared _ _ _ (taken_fits _ _ _ k.0 k.1) (c.fill.ensures.after (λ y h. h)) in
+    done_all _ _ _ _ c.if-buffer-ne8192.false _ e _ _ _ refl c.write_file-size.auto.out k.0 k.1 z
