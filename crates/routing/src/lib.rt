@@ -13,6 +13,8 @@ ghost use Rattle.search.specs.inner.Parts.{Places};
 ghost use Rattle.routing.specs.Routes.{RouteIs, Routed};
 ghost use Rattle.routing.specs.inner.Walking.{TightKey, Hop, Walked};
 
+use search::ByPairs;
+
 // Whether the straight from v to u is clear and adds what their keys differ by.
 fn tight(blocks: &[u16], runs: &[u16], pairs: &[u8], v: usize, u: usize, kv: u32, ku: u32) -> bool
     requires searchable { Searchable (stored blocks.now runs.now) pairs.now }
@@ -107,8 +109,15 @@ pub fn route(
     if runs[5 * m] == 0 {
         return;
     }
+    let mut row = [0u64; 3];
+    search::near_row(blocks, pairs, 193 + 2 * m, &mut row);
+    let straights = ByPairs {
+        pairs,
+        adj,
+        row: &row,
+    };
     let mut key = [4000000000u32; 240];
-    if settling::settle(blocks, runs, places, pairs, adj, m, &mut key) {
+    if settling::settle(blocks, runs, places, &straights, m, &mut key) {
         let n = walk(blocks, runs, pairs, m, &key, part);
         part[0] = 1;
         part[1] = key[192 + 2 * m] / 256;

@@ -1,4 +1,4 @@
--- A settled mark's row and the first end, relaxed word by word.
+-- The words of a row and the first end: their bits are those of the marks near its mark.
 use mathlib.Core.Path.{◌≡◌, sym, ap, ◌∙◌, subst}
 use mathlib.Core.Logic.{◌⊎◌, inl, inr}
 use mathlib.Core.Bool.{Bool, true, false, cond}
@@ -11,21 +11,13 @@ use Rattle.geometry.specs.Words.{word}
 use Rattle.bits.specs.inner.Bits.{bit}
 use Rattle.bits.proofs.Counting.{bit_zero, bit_low}
 use Rattle.adjacency.specs.inner.Adjacent.{near_bit}
-use Rattle.search.specs.inner.Parts.{Here, Bend, Bends, Parted, Passed, Marked, near_base}
-use Rattle.row_search.specs.inner.Rows.{told_bit, ByRows, Tidy, near_word, Seen}
-use Rattle.search.proofs.Network.{corner_below}
-use Rattle.search.proofs.Parts.{passed_none, passed_both, passed_under}
+use Rattle.search.specs.inner.Parts.{Marked, near_base, NearBy, NearWord}
+use Rattle.row_search.specs.inner.Rows.{told_bit, ByRows, Tidy, near_word}
 use Rattle.row_search.proofs.Told.{told_corner, told_end, told_ends, told_small}
 
 -- v is near s by word q: a corner of the row, or the first end
-abbrev pub NearBy : List ℕ → Bool → ℕ → ℕ → ℕ → ℕ → Type 0
-NearBy rows facing s first q v = ((q < 3) × (near_bit rows s v ≡ 1) × (64 * q ≤ v) × (v < 64 * q + 64)) ⊎ ((q ≡ 3) × (v ≡ first) × ByRows rows facing first s)
-
--- v is near s by a word before q
-pub record NearBefore (rows : List ℕ) (facing : Bool) (s first q v : ℕ) : Type 0 where
-  pub word' : ℕ
-  pub before : word' < q
-  pub near : NearBy rows facing s first word' v
+abbrev pub RowNear : List ℕ → Bool → ℕ → ℕ → ℕ → ℕ → Type 0
+RowNear rows facing s first q v = ((q < 3) × (near_bit rows s v ≡ 1) × (64 * q ≤ v) × (v < 64 * q + 64)) ⊎ ((q ≡ 3) × (v ≡ first) × ByRows rows facing first s)
 
 -- the four words, and the marks of their lowest bits
 module _ (rows : List ℕ) (facing : Bool) (first s q : ℕ) where
@@ -67,7 +59,7 @@ bit_of rows s q i v l e =
 
 -- a word's bits are those of the marks near s by it
 module _ (rows : List ℕ) (facing : Bool) (s : ℕ) {first q w base : ℕ} (low : w < 2 ^ 64) (a : w ≡ near_word rows facing first s q) (b : base ≡ near_base first q) where
-  pub marked_near : q < 4 → (v : ℕ) → Marked w base v → NearBy rows facing s first q v
+  pub marked_near : q < 4 → (v : ℕ) → Marked w base v → RowNear rows facing s first q v
   marked_near l v m = elim (dec_lt q 3) [ yes h ↦ inl (in_row h) | no h ↦ inr (the_first (omega arith)) ]
     where
       in_row : q < 3 → (q < 3) × (near_bit rows s v ≡ 1) × (64 * q ≤ v) × (v < 64 * q + 64)
@@ -84,7 +76,7 @@ module _ (rows : List ℕ) (facing : Bool) (s : ℕ) {first q w base : ℕ} (low
           let o : w ≡ 0 → ⊥ = λ o. omega (arith, m.set, ap (bit m.at) o, bit_zero m.at) in
           (omega arith, omega (arith, m.is, first_base first q h), omega (arith, told_small rows facing first s, o))
 
-  pub near_marked : (v : ℕ) → NearBy rows facing s first q v → Marked w base v
+  pub near_marked : (v : ℕ) → RowNear rows facing s first q v → Marked w base v
   near_marked v (inl n) =
       let k = row_base first q n.0 in
       let e : 64 * q + v % 64 ≡ v = omega (arith, n.2, n.3) in
@@ -93,41 +85,20 @@ module _ (rows : List ℕ) (facing : Bool) (s : ℕ) {first q w base : ℕ} (low
       let h : 3 ≤ q = omega (arith, n.0) in
       record { at = 0; is = omega (arith, n.1, first_base first q h); set = ap (bit 0) (a ∙ sym (first_word rows facing first s q h) ∙ n.2) ∙ bit_one }
 
--- the marks near s are relaxed word by word
-module _ {bound most : ℕ → ℕ} {rows : List ℕ} {facing : Bool} {s first : ℕ} where
-  pub near_none : {W S K T : List ℕ} {u n : ℕ} → Parted bound W S K T u n → Passed bound most (NearBefore rows facing s first 0) W S K W S K T u n
-  near_none p = passed_none p (λ v o m. omega (arith, m.before))
+  pub near_told : {blocks : List ℕ} → Tidy blocks rows → s < 240 → q < 4 → NearWord blocks (ByRows rows facing) first s q w
+  near_told {blocks} t l k =
+      record {
+        only = λ v m. to v (marked_near k v (subst (λ (x : ℕ). Marked w x v) (sym b) m));
+        all = λ v n. subst (λ (x : ℕ). Marked w x v) b (near_marked v (from v n));
+      }
+    where
+      to : (v : ℕ) → RowNear rows facing s first q v → NearBy blocks (ByRows rows facing) s first q v
+      to v (inl m) =
+          let h : v < 192 = omega (arith, m.0, m.3) in
+          let c = t.each s v l h m.1 in
+          inl (m.0, record { present = c.0; differ = c.1; clear = told_corner rows facing v s h ∙ m.1 }, m.2, m.3)
+      to v (inr m) = inr m
 
-  module _ {W S K W' S' K' T' : List ℕ} {u n q : ℕ} (x : Passed bound most (NearBefore rows facing s first q) W S K W' S' K' T' u n) where
-    pub near_next : {w base : ℕ} {W'' S'' K'' T'' : List ℕ} {u' : ℕ} → ((v : ℕ) → Marked w base v → NearBy rows facing s first q v) → ((v : ℕ) → NearBy rows facing s first q v → Marked w base v)
-        → Passed bound most (Marked w base) W' S' K' W'' S'' K'' T'' u' n → Passed bound most (NearBefore rows facing s first (q + 1)) W S K W'' S'' K'' T'' u' n
-    near_next {w} {base} f g y = passed_under to (λ v o m. from v m (dec_lt m.word' q)) (passed_both x y)
-      where
-        to : (v : ℕ) → NearBefore rows facing s first q v ⊎ Marked w base v → NearBefore rows facing s first (q + 1) v
-        to v (inl m) = record { word' = m.word'; before = omega (arith, m.before); near = m.near }
-        to v (inr m) = record { word' = q; before = omega arith; near = f v m }
-
-        from : (v : ℕ) → (m : NearBefore rows facing s first (q + 1) v) → Dec (m.word' < q) → NearBefore rows facing s first q v ⊎ Marked w base v
-        from v m (yes h) = inl (record { word' = m.word'; before = h; near = m.near })
-        from v m (no h) =
-            let e : m.word' ≡ q = omega (arith, m.before) in
-            inr (g v (subst (λ (k : ℕ). NearBy rows facing s first k v) e m.near))
-
-    -- all four words are done
-    pub near_all : {blocks : List ℕ} → 4 ≤ q → s < 240 → (first ≡ s → ⊥) → Tidy blocks rows → Bends blocks first W S n → Passed bound most (Seen rows facing s) W S K W' S' K' T' u n
-    near_all {blocks} l b ne t d = passed_under (λ v m. to v m.near) (λ v o e. from v e (d.only v o)) x
-      where
-        to : {k : ℕ} (v : ℕ) → NearBy rows facing s first k v → Seen rows facing s v
-        to v (inl m) = let h : v < 192 = omega (arith, m.0, m.3) in ((t.each s v b h m.1).1, told_corner rows facing v s h ∙ m.1)
-        to v (inr m) = subst (Seen rows facing s) (sym m.1) (ne, m.2)
-
-        from : (v : ℕ) → Seen rows facing s v → Bend blocks first v → NearBefore rows facing s first q v
-        from v e (inl f) = record { word' = 3; before = omega arith; near = inr (omega arith, f, ap (λ (k : ℕ). told_bit rows facing k s) (sym f) ∙ e.1) }
-        from v e (inr c) =
-            let h = corner_below blocks v c in
-            record { word' = v / 64; before = omega arith; near = inl (omega arith, sym (told_corner rows facing v s h) ∙ e.1, omega arith, omega arith) }
-
--- what word q asks of the list
-pub near_here : {blocks rows W S : List ℕ} (facing : Bool) {s first n q : ℕ} → Tidy blocks rows → Bends blocks first W S n → s < 240 → first < 240 → (v : ℕ) → NearBy rows facing s first q v → (v < 240) × Here W S v
-near_here facing {s = s} t d b l v (inl m) = let h : v < 192 = omega (arith, m.0, m.3) in (omega arith, d.all v (inr (t.each s v b h m.1).0))
-near_here facing t d b l v (inr m) = (omega (arith, m.1), d.all v (inl m.1))
+      from : (v : ℕ) → NearBy blocks (ByRows rows facing) s first q v → RowNear rows facing s first q v
+      from v (inl n) = let h : v < 192 = omega (arith, n.0, n.3) in inl (n.0, sym (told_corner rows facing v s h) ∙ n.1.clear, n.2, n.3)
+      from v (inr n) = inr n

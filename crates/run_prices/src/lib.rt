@@ -12,6 +12,8 @@ ghost use Rattle.mark_rows.specs.inner.Adjacent.{Rows};
 ghost use Rattle.search.specs.inner.Parts.{Places};
 ghost use Rattle.run_prices.specs.Prices.{Priced, Prices};
 
+use row_search::ByMarkRows;
+
 // The state and the length in a run's route record.
 #[derive(Clone, Copy)]
 pub struct Price {
@@ -47,8 +49,11 @@ fn run_price(
         };
     }
     let mut key = [4000000000u32; 240];
-    let seen = facing(blocks, runs, near, m);
-    if row_settling::settle(blocks, runs, places, rows, seen, m, &mut key) {
+    let straights = ByMarkRows {
+        rows,
+        facing: facing(blocks, runs, near, m),
+    };
+    if settling::settle(blocks, runs, places, &straights, m, &mut key) {
         return Price {
             state: 1,
             charge: key[192 + 2 * m] / 256,

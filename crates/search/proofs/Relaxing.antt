@@ -14,7 +14,8 @@ use Rattle.bits.proofs.Counting.{bit_zero, bit_low}
 use Rattle.tables.specs.Tables.{pair_byte}
 use Rattle.tables.proofs.Splices.{part_word, part_length}
 use Rattle.adjacency.specs.inner.Adjacent.{Adjacent, Shows, Rows}
-use Rattle.search.specs.inner.Parts.{Here, Bend, Bends, Parted, Passed, Marked, Row, near_word, near_base, Seen}
+use Rattle.search.specs.Network.{ByBytes}
+use Rattle.search.specs.inner.Parts.{Here, Bend, Bends, Parted, Passed, Marked, Row, near_word, near_base, Seen, NearBy, NearWord}
 use Rattle.search.proofs.Network.{corner_below}
 use Rattle.search.proofs.Parts.{passed_none, passed_both, passed_under}
 
@@ -51,17 +52,6 @@ row_lent blocks pairs adj s r l =
         let a₂ = subst (λ (k : ℕ). Shows (Adjacent blocks pairs s (64 * k + i)) (bit i (word adj (3 * s + q)))) m a₁ in
         subst (λ (k : ℕ). Shows (Adjacent blocks pairs s (64 * q + i)) (bit i k)) (sym (part_word adj (3 * s) 3 q h)) a₂
 
--- v is near s by word q: a corner of the row, or the first end
-abbrev pub NearBy : List ℕ → List ℕ → ℕ → ℕ → ℕ → ℕ → Type 0
-NearBy blocks pairs s first q v =
-    ((q < 3) × Adjacent blocks pairs s v × (64 * q ≤ v) × (v < 64 * q + 64)) ⊎ ((q ≡ 3) × (v ≡ first) × (pair_byte pairs first s ≡ 254))
-
--- v is near s by a word before q
-pub record NearBefore (blocks pairs : List ℕ) (s first q v : ℕ) : Type 0 where
-  pub word' : ℕ
-  pub before : word' < q
-  pub near : NearBy blocks pairs s first word' v
-
 -- the four words, and the marks of their lowest bits
 module _ (pairs row : List ℕ) (first s q : ℕ) where
   pub row_word : q < 3 → word row q ≡ near_word pairs row first s q
@@ -90,7 +80,7 @@ bit_one = omega arith
 
 -- a word's bits are those of the marks near s by it
 module _ {blocks pairs row : List ℕ} {s first : ℕ} (r : Row blocks pairs row s 3) {q w base : ℕ} (low : w < 2 ^ 64) (a : w ≡ near_word pairs row first s q) (b : base ≡ near_base first q) where
-  pub marked_near : q < 4 → (v : ℕ) → Marked w base v → NearBy blocks pairs s first q v
+  pub marked_near : q < 4 → (v : ℕ) → Marked w base v → NearBy blocks (ByBytes pairs) s first q v
   marked_near l v m = elim (dec_lt q 3) [ yes h ↦ inl (in_row h) | no h ↦ let f = the_first h (ℕ_discrete (pair_byte pairs first s) 254) in inr (omega arith, f.0, f.1) ]
     where
       in_row : q < 3 → (q < 3) × Adjacent blocks pairs s v × (64 * q ≤ v) × (v < 64 * q + 64)
@@ -110,7 +100,7 @@ module _ {blocks pairs row : List ℕ} {s first : ℕ} (r : Row blocks pairs row
           let o : w ≡ 0 = a ∙ sym (no_word pairs row first s q (omega arith) e) in
           absurd (omega (arith, m.set, ap (bit m.at) o, bit_zero m.at))
 
-  pub near_marked : (v : ℕ) → NearBy blocks pairs s first q v → Marked w base v
+  pub near_marked : (v : ℕ) → NearBy blocks (ByBytes pairs) s first q v → Marked w base v
   near_marked v (inl n) =
       let k = row_base first q n.0 in
       let e : 64 * q + (v - 64 * q) ≡ v = omega (arith, n.2) in
@@ -120,41 +110,54 @@ module _ {blocks pairs row : List ℕ} {s first : ℕ} (r : Row blocks pairs row
       let h : 3 ≤ q = omega (arith, n.0) in
       record { at = 0; is = omega (arith, n.1, first_base first q h); set = ap (bit 0) (a ∙ sym (first_word pairs row first s q h n.2)) ∙ bit_one }
 
+  pub near_told : q < 4 → NearWord blocks (ByBytes pairs) first s q w
+  near_told l =
+      record {
+        only = λ v m. marked_near l v (subst (λ (k : ℕ). Marked w k v) (sym b) m);
+        all = λ v n. subst (λ (k : ℕ). Marked w k v) b (near_marked v n);
+      }
+
+-- v is near s by a word before q
+pub record NearBefore (blocks : List ℕ) (Clear : ℕ → ℕ → Type 0) (s first q v : ℕ) : Type 0 where
+  pub word' : ℕ
+  pub before : word' < q
+  pub near : NearBy blocks Clear s first word' v
+
 -- the marks near s are relaxed word by word
-module _ {bound most : ℕ → ℕ} {blocks pairs : List ℕ} {s first : ℕ} where
-  pub near_none : {W S K T : List ℕ} {u n : ℕ} → Parted bound W S K T u n → Passed bound most (NearBefore blocks pairs s first 0) W S K W S K T u n
+module _ {bound most : ℕ → ℕ} {blocks : List ℕ} {Clear : ℕ → ℕ → Type 0} {s first : ℕ} where
+  pub near_none : {W S K T : List ℕ} {u n : ℕ} → Parted bound W S K T u n → Passed bound most (NearBefore blocks Clear s first 0) W S K W S K T u n
   near_none p = passed_none p (λ v o m. omega (arith, m.before))
 
-  module _ {W S K W' S' K' T' : List ℕ} {u n q : ℕ} (x : Passed bound most (NearBefore blocks pairs s first q) W S K W' S' K' T' u n) where
-    pub near_next : {w base : ℕ} {W'' S'' K'' T'' : List ℕ} {u' : ℕ} → ((v : ℕ) → Marked w base v → NearBy blocks pairs s first q v) → ((v : ℕ) → NearBy blocks pairs s first q v → Marked w base v)
-        → Passed bound most (Marked w base) W' S' K' W'' S'' K'' T'' u' n → Passed bound most (NearBefore blocks pairs s first (q + 1)) W S K W'' S'' K'' T'' u' n
-    near_next {w} {base} f g y = passed_under to (λ v o m. from v m (dec_lt m.word' q)) (passed_both x y)
+  module _ {W S K W' S' K' T' : List ℕ} {u n q : ℕ} (x : Passed bound most (NearBefore blocks Clear s first q) W S K W' S' K' T' u n) where
+    pub near_next : {w base : ℕ} {W'' S'' K'' T'' : List ℕ} {u' : ℕ} → base ≡ near_base first q → NearWord blocks Clear first s q w
+        → Passed bound most (Marked w base) W' S' K' W'' S'' K'' T'' u' n → Passed bound most (NearBefore blocks Clear s first (q + 1)) W S K W'' S'' K'' T'' u' n
+    near_next {w} {base} b r y = passed_under to (λ v o m. from v m (dec_lt m.word' q)) (passed_both x y)
       where
-        to : (v : ℕ) → NearBefore blocks pairs s first q v ⊎ Marked w base v → NearBefore blocks pairs s first (q + 1) v
+        to : (v : ℕ) → NearBefore blocks Clear s first q v ⊎ Marked w base v → NearBefore blocks Clear s first (q + 1) v
         to v (inl m) = record { word' = m.word'; before = omega (arith, m.before); near = m.near }
-        to v (inr m) = record { word' = q; before = omega arith; near = f v m }
+        to v (inr m) = record { word' = q; before = omega arith; near = r.only v (subst (λ (k : ℕ). Marked w k v) b m) }
 
-        from : (v : ℕ) → (m : NearBefore blocks pairs s first (q + 1) v) → Dec (m.word' < q) → NearBefore blocks pairs s first q v ⊎ Marked w base v
+        from : (v : ℕ) → (m : NearBefore blocks Clear s first (q + 1) v) → Dec (m.word' < q) → NearBefore blocks Clear s first q v ⊎ Marked w base v
         from v m (yes h) = inl (record { word' = m.word'; before = h; near = m.near })
         from v m (no h) =
             let e : m.word' ≡ q = omega (arith, m.before) in
-            inr (g v (subst (λ (k : ℕ). NearBy blocks pairs s first k v) e m.near))
+            inr (subst (λ (k : ℕ). Marked w k v) (sym b) (r.all v (subst (λ (k : ℕ). NearBy blocks Clear s first k v) e m.near)))
 
     -- all four words are done
-    pub near_all : 4 ≤ q → (first ≡ s → ⊥) → Bends blocks first W S n → Passed bound most (Seen pairs s) W S K W' S' K' T' u n
+    pub near_all : 4 ≤ q → (first ≡ s → ⊥) → Bends blocks first W S n → Passed bound most (Seen Clear s) W S K W' S' K' T' u n
     near_all l ne d = passed_under (λ v m. to v m.near) (λ v o e. from v e (d.only v o)) x
       where
-        to : {k : ℕ} (v : ℕ) → NearBy blocks pairs s first k v → Seen pairs s v
+        to : {k : ℕ} (v : ℕ) → NearBy blocks Clear s first k v → Seen Clear s v
         to v (inl m) = (m.1.differ, m.1.clear)
-        to v (inr m) = subst (Seen pairs s) (sym m.1) (ne, m.2)
+        to v (inr m) = subst (Seen Clear s) (sym m.1) (ne, m.2)
 
-        from : (v : ℕ) → Seen pairs s v → Bend blocks first v → NearBefore blocks pairs s first q v
-        from v e (inl f) = record { word' = 3; before = omega arith; near = inr (omega arith, f, ap (λ (k : ℕ). pair_byte pairs k s) (sym f) ∙ e.1) }
+        from : (v : ℕ) → Seen Clear s v → Bend blocks first v → NearBefore blocks Clear s first q v
+        from v e (inl f) = record { word' = 3; before = omega arith; near = inr (omega arith, f, subst (λ (k : ℕ). Clear k s) f e.1) }
         from v e (inr c) =
             let h = corner_below blocks v c in
             record { word' = v / 64; before = omega arith; near = inl (omega arith, record { present = c; differ = e.0; clear = e.1 }, omega arith, omega arith) }
 
 -- what word q asks of the list
-pub near_here : (pairs : List ℕ) {blocks W S : List ℕ} {s first n q : ℕ} → Bends blocks first W S n → first < 240 → (v : ℕ) → NearBy blocks pairs s first q v → (v < 240) × Here W S v
-near_here pairs {blocks} d l v (inl m) = (omega (arith, corner_below blocks v m.1.present), d.all v (inr m.1.present))
-near_here pairs d l v (inr m) = (omega (arith, m.1), d.all v (inl m.1))
+pub near_here : (Clear : ℕ → ℕ → Type 0) {blocks W S : List ℕ} {s first n q : ℕ} → Bends blocks first W S n → first < 240 → (v : ℕ) → NearBy blocks Clear s first q v → (v < 240) × Here W S v
+near_here Clear {blocks} d l v (inl m) = (omega (arith, corner_below blocks v m.1.present), d.all v (inr m.1.present))
+near_here Clear d l v (inr m) = (omega (arith, m.1), d.all v (inl m.1))

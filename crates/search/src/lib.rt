@@ -2,12 +2,14 @@
 // and the relaxing of those that have a clear straight to a settled one. A key is 256 × cost + straights.
 #![tactic(auto)]
 
-ghost use Rattle.std.specs.Prelude.{◌≡◌, ℕ, ◌+◌, ◌*◌, ◌<◌, ◌≤◌, min, length};
+ghost use Rattle.std.specs.Prelude.{◌≡◌, ◌⊎◌, List, ℕ, ◌+◌, ◌*◌, ◌<◌, ◌≤◌, min, length};
 ghost use Rattle.geometry.specs.Words.{point_of, word, place_at};
 ghost use Rattle.tables.specs.Tables.{stored};
+ghost use Rattle.adjacency.specs.inner.Adjacent.{Rows};
+ghost use Rattle.search.specs.Network.{ByBytes};
 ghost use Rattle.search.specs.inner.LowerBound.{projection, at_least, lower_bound};
 ghost use Rattle.search.specs.inner.Keys.{Listed, Looked};
-ghost use Rattle.search.specs.inner.Parts.{Places, Here, Corners, Ranked, Bends, Parted, Exchanged, Passed, way_by, via, ahead, Marked, Row, near_word, near_base, Seen};
+ghost use Rattle.search.specs.inner.Parts.{Places, Here, Corners, Ranked, Bends, Parted, Exchanged, Passed, way_by, via, ahead, Marked, Row, near_word, near_base, Seen, NearWord};
 
 use geometry::Place;
 
@@ -241,12 +243,48 @@ pub fn near_base(first: usize, q: usize) -> usize
     first
 }
 
-// Relaxes every waiting mark that has a clear straight to a settled one, whose near corners are in the row.
-pub fn relax(
+// The clear straights as a search reads them.
+pub trait Straights {
+    // the straight from one mark to another is clear
+    ghost clear: { Self → ℕ → ℕ → Type 0 };
+
+    // with the blocks and the first end: what is near a mark can be read
+    ghost told: { Self → List ℕ → ℕ → ℕ → Type 0 };
+
+    // The word q of the marks near a settled one: three words of corners, and then one for the first end alone.
+    fn near(&self, blocks: &[u16], first: usize, mark: usize, q: usize) -> u64
+        requires { (told self.now blocks.now first mark) × (first < 240) × (mark < 240) × (first ≡ mark → ⊥) × (q < 4) }
+        ensures { NearWord blocks.now (clear self.now) first mark q result };
+}
+
+// Straights by the pair bytes, with the rows of all corners and that of the run's second end.
+#[derive(Clone, Copy)]
+pub struct ByPairs<'a> {
+    pub pairs: &'a [u8],
+    pub adj: &'a [u64],
+    pub row: &'a [u64],
+}
+
+impl<'a> Straights for ByPairs<'a> {
+    ghost clear = { λ s. ByBytes s.pairs.now };
+
+    ghost told = { λ s blocks first mark. (length s.pairs.now ≡ 28680) × (((mark < 192) × Rows blocks s.pairs.now s.adj.now 576) ⊎ ((192 ≤ mark) × Row blocks s.pairs.now s.row.now mark 3)) };
+
+    fn near(&self, blocks: &[u16], first: usize, mark: usize, q: usize) -> u64 {
+        if mark < 192 {
+            let from = 3 * mark;
+            let to = from + 3;
+            return near_word(self.pairs, &self.adj[from..to], first, mark, q);
+        }
+        near_word(self.pairs, self.row, first, mark, q)
+    }
+}
+
+// Relaxes every waiting mark that has a clear straight to a settled one.
+pub fn relax<S: Straights>(
     blocks: &[u16],
     places: &[u16],
-    pairs: &[u8],
-    row: &[u64],
+    straights: &S,
     by: Settled,
     first: usize,
     u: usize,
@@ -255,14 +293,14 @@ pub fn relax(
     key: &mut [u32],
     sums: &mut [u32],
 ) -> usize
-    requires places_len { (length places.now ≡ 480) × (length pairs.now ≡ 28680) × (by.key ≤ 4294967293) × (Row blocks.now pairs.now row.now by.mark 3) }
+    requires places_len { (length places.now ≡ 480) × (by.key ≤ 4294967293) × (S.told straights.now blocks.now first by.mark) }
     requires first_bound { (first < 240) × (by.mark < 240) × (first ≡ by.mark → ⊥) }
     requires parted { (Parted (ahead places.now by) waiting.old spot.old key.old sums.old u by.left) × (Bends blocks.now first waiting.old spot.old by.left) }
-    ensures { Passed (ahead places.now by) (via places.now by) (Seen pairs.now by.mark) waiting.old spot.old key.old waiting.new spot.new key.new sums.new result by.left }
+    ensures { Passed (ahead places.now by) (via places.now by) (Seen (S.clear straights.now) by.mark) waiting.old spot.old key.old waiting.new spot.new key.new sums.new result by.left }
 {
     let mut low = u;
     for q in 0..4 {
-        let w = near_word(pairs, row, first, by.mark, q);
+        let w = straights.near(blocks, first, by.mark, q);
         let base = near_base(first, q);
         low = relax_word(places, by, w, base, low, waiting, spot, key, sums);
     }

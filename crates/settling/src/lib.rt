@@ -1,23 +1,23 @@
 // The search of one run: marks are settled one by one, the least sum of key and bound first, until the first end is.
 #![tactic(auto)]
 
-ghost use Rattle.std.specs.Prelude.{◌≡◌, ◌<◌, length};
+ghost use Rattle.std.specs.Prelude.{◌≡◌, ℕ, ◌<◌, length};
 ghost use Rattle.tables.specs.Tables.{stored, first_end, second_end};
-ghost use Rattle.adjacency.specs.inner.Adjacent.{Rows};
-ghost use Rattle.search.specs.Network.{ByBytes, graph};
+ghost use Rattle.tables.specs.inner.Fit.{Fit};
+ghost use Rattle.search.specs.Network.{graph};
 ghost use Rattle.search.specs.inner.LowerBound.{lower_bound};
-ghost use Rattle.search.specs.inner.Keys.{unreached, Filled, Searchable, Searched};
+ghost use Rattle.search.specs.inner.Keys.{unreached, Filled, Searched};
 ghost use Rattle.search.specs.inner.Parts.{Places, Ranked, Bends, Parted};
 ghost use Rattle.settling.specs.inner.Turns.{EndSettled, Due, Turned};
 
-use search::Settled;
+use search::{Settled, Straights};
 
 // Settles the second end of run m, when all n marks are waiting.
-fn settle_end(
+fn settle_end<S: Straights>(
     blocks: &[u16],
     runs: &[u16],
     places: &[u16],
-    pairs: &[u8],
+    straights: &S,
     m: usize,
     n: usize,
     waiting: &mut [u16],
@@ -25,15 +25,14 @@ fn settle_end(
     key: &mut [u32],
     sums: &mut [u32],
 ) -> usize
-    requires searchable { (Searchable (stored blocks.now runs.now) pairs.now) × (Places (stored blocks.now runs.now) places.now 240) × (m < 24) }
+    requires fit { (Fit (stored blocks.now runs.now)) × (Places (stored blocks.now runs.now) places.now 240) × (m < 24) }
+    requires told { S.told straights.now blocks.now (first_end m) (second_end m) }
     requires ranked { (Ranked blocks.now (first_end m) waiting.old spot.old n) × (Filled key.old 240 unreached) × (length sums.old ≡ 194) }
-    ensures { EndSettled (stored blocks.now runs.now) (ByBytes pairs.now) m waiting.old spot.old key.old waiting.new spot.new key.new sums.new result n }
+    ensures { EndSettled (stored blocks.now runs.now) (S.clear straights.now) m waiting.old spot.old key.old waiting.new spot.new key.new sums.new result n }
 {
     let first = 192 + 2 * m;
     let second = 193 + 2 * m;
     key[second] = 0;
-    let mut row = [0u64; 3];
-    search::near_row(blocks, pairs, second, &mut row);
     let by = Settled {
         mark: second,
         place: search::listed_place(places, second),
@@ -43,17 +42,16 @@ fn settle_end(
         goal: search::listed_place(places, first),
     };
     search::relax(
-        blocks, places, pairs, &row, by, first, n, waiting, spot, key, sums,
+        blocks, places, straights, by, first, n, waiting, spot, key, sums,
     )
 }
 
 // Settles the mark at a place of the list, where n marks are waiting and the first u of them are not reached.
-fn settle_mark(
+fn settle_mark<S: Straights>(
     blocks: &[u16],
     runs: &[u16],
     places: &[u16],
-    pairs: &[u8],
-    adj: &[u64],
+    straights: &S,
     m: usize,
     at: usize,
     u: usize,
@@ -63,9 +61,10 @@ fn settle_mark(
     key: &mut [u32],
     sums: &mut [u32],
 ) -> usize
-    requires searchable { (Searchable (stored blocks.now runs.now) pairs.now) × (Places (stored blocks.now runs.now) places.now 240) × (Rows blocks.now pairs.now adj.now 576) × (m < 24) }
+    requires fit { (Fit (stored blocks.now runs.now)) × (Places (stored blocks.now runs.now) places.now 240) × (m < 24) }
+    requires told { (v : ℕ) → v < 192 → S.told straights.now blocks.now (first_end m) v }
     requires parted { (Parted (lower_bound (stored blocks.now runs.now) (first_end m)) waiting.old spot.old key.old sums.old u n) × (Bends blocks.now (first_end m) waiting.old spot.old n) × (Due waiting.old key.old u n at) }
-    ensures { Turned (stored blocks.now runs.now) (ByBytes pairs.now) m waiting.old spot.old key.old waiting.new spot.new key.new sums.new at n result }
+    ensures { Turned (stored blocks.now runs.now) (S.clear straights.now) m waiting.old spot.old key.old waiting.new spot.new key.new sums.new at n result }
 {
     let first = 192 + 2 * m;
     let s = waiting[at] as usize;
@@ -80,37 +79,25 @@ fn settle_mark(
         figure: tables::figure_of(runs),
         goal: search::listed_place(places, first),
     };
-    let from = 3 * s;
-    let to = from + 3;
     search::relax(
-        blocks,
-        places,
-        pairs,
-        &adj[from..to],
-        by,
-        first,
-        u,
-        waiting,
-        spot,
-        key,
-        sums,
+        blocks, places, straights, by, first, u, waiting, spot, key, sums,
     )
 }
 
-// Finds the keys for run m, of which none is reached at first, by the rows of near corners; answers whether there is a way.
+// Finds the keys for run m, of which none is reached at first, by the clear straights; answers whether there is a way.
 // The list is kept in three parts: the first u marks are not reached, those before n are waiting, the others are settled.
-pub fn settle(
+pub fn settle<S: Straights>(
     blocks: &[u16],
     runs: &[u16],
     places: &[u16],
-    pairs: &[u8],
-    adj: &[u64],
+    straights: &S,
     m: usize,
     key: &mut [u32],
 ) -> bool
-    requires searchable { (Searchable (stored blocks.now runs.now) pairs.now) × (Places (stored blocks.now runs.now) places.now 240) × (Rows blocks.now pairs.now adj.now 576) }
+    requires fit { (Fit (stored blocks.now runs.now)) × (Places (stored blocks.now runs.now) places.now 240) }
+    requires told { (S.told straights.now blocks.now (first_end m) (second_end m)) × ((v : ℕ) → v < 192 → S.told straights.now blocks.now (first_end m) v) }
     requires m_bound { (m < 24) × (Filled key.old 240 unreached) }
-    ensures { Searched (graph (stored blocks.now runs.now) (ByBytes pairs.now)) (first_end m) (second_end m) key.new result }
+    ensures { Searched (graph (stored blocks.now runs.now) (S.clear straights.now)) (first_end m) (second_end m) key.new result }
 {
     let first = 192 + 2 * m;
     let mut waiting = [0u16; 194];
@@ -121,7 +108,7 @@ pub fn settle(
         blocks,
         runs,
         places,
-        pairs,
+        straights,
         m,
         n,
         &mut waiting,
@@ -130,10 +117,9 @@ pub fn settle(
         &mut sums,
     );
     loop {
-        let at = heaps::least_sum(&sums, u, n);
-        if at >= n {
+        let Some(at) = heaps::least_sum(&sums, u, n) else {
             return false;
-        }
+        };
         if key[first] <= sums[at] {
             return true;
         }
@@ -141,8 +127,7 @@ pub fn settle(
             blocks,
             runs,
             places,
-            pairs,
-            adj,
+            straights,
             m,
             at,
             u,

@@ -1,4 +1,5 @@
 -- Each return is one case of `RouteIs`.
+use mathlib.Core.Logic.{inl, inr}
 use native.Mathlib.Omega.{arith}
 use lib.ListN.{length-set}
 use Rattle.search.specs.inner.Keys.{unreached}
@@ -10,7 +11,7 @@ pub returns-then-runs-m-eq0 : goal.returns-then-runs-m-eq0
 returns-then-runs-m-eq0 c = absent_record _ _ _ _ (cleared _ c.requires.fit.3 c.fill32.ensures) c.if-runs-m-eq0.true
 
 pub settle-requires : goal.settle-requires
-settle-requires c = record { searchable = (record { fit = c.requires.fit.0; sized = c.requires.fit.1 }, c.requires.rows.1, c.requires.rows.0); m_bound = (c.requires.fit.2, filled_all 240 unreached) }
+settle-requires c = record { fit = (c.requires.fit.0, c.requires.rows.1); told = ((c.requires.fit.1, inr (omega arith, c.near_row.ensures)), λ v l. (c.requires.fit.1, inl (l, c.requires.rows.0))); m_bound = (c.requires.fit.2, filled_all 240 unreached) }
 
 pub walk-n-requires : goal.walk-n-requires
 walk-n-requires c = record { searchable = record { fit = c.requires.fit.0; sized = c.requires.fit.1 }; m_bound = (c.requires.fit.2, c.settle.ensures.way c.if-settle.true, (cleared _ c.requires.fit.3 c.fill32.ensures)) }

@@ -20,7 +20,3 @@ pub record Tidy (blocks rows : List ℕ) : Type 0 where
 -- the word q of the marks near s: three of its row, and then one with the first end alone
 unfoldable pub near_word : List ℕ → Bool → ℕ → ℕ → ℕ → ℕ
 near_word rows facing first s q = cond (ltb q 3) (word rows (3 * s + q)) (told_bit rows facing first s)
-
--- v has a clear straight to s
-abbrev pub Seen : List ℕ → Bool → ℕ → ℕ → Type 0
-Seen rows facing s v = (v ≡ s → ⊥) × ByRows rows facing v s

@@ -1,8 +1,7 @@
-use Prim.Native.Nat.{◌≤◌}
 use Rattle.search.specs.inner.Parts.{Passed, via, ahead}
 use Rattle.search.proofs.Relaxing.{NearBefore}
 use Rattle.search.proofs.relax.Given as goal
 
 abbrev pub invariant-loop-q : goal.invariant-loop-q
-invariant-loop-q l =
-    (l.q ≤ 4) × Passed (ahead l.places l.by) (via l.places l.by) (NearBefore l.blocks l.pairs l.by.mark l.first l.q) l.initial.waiting l.initial.spot l.initial.key l.waiting l.spot l.key l.sums l.low l.by.left
+invariant-loop-q g l =
+    Passed (ahead l.places l.by) (via l.places l.by) (NearBefore l.blocks (g.S.Straights.clear l.straights) l.by.mark l.first l.q) l.initial.waiting l.initial.spot l.initial.key l.waiting l.spot l.key l.sums l.low l.by.left

@@ -5,9 +5,8 @@ use Rattle.lengths.specs.Length.{length_of}
 use Rattle.lengths.specs.Charge.{charge}
 use Rattle.bits.specs.inner.Bits.{bit}
 use Rattle.tables.specs.Tables.{Records, is_corner, place_of, pair_byte}
-use Rattle.adjacency.specs.inner.Adjacent.{Adjacent, Shows}
+use Rattle.adjacency.specs.inner.Adjacent.{AdjacentBy, Adjacent, Shows}
 use Rattle.heaps.specs.inner.Marks.{Swapped}
-use Rattle.search.specs.Network.{ByBytes}
 use Rattle.search.specs.inner.LowerBound.{at_least}
 use Rattle.search.specs.inner.Keys.{unreached, Open}
 use Rattle.search.specs.declared.Settled.{Settled}
@@ -119,6 +118,16 @@ near_word pairs row first s q = cond (ltb q 3) (word row q) (cond (eqb (pair_byt
 unfoldable pub near_base : ℕ → ℕ → ℕ
 near_base first q = cond (ltb q 3) (64 * q) first
 
--- v has a clear straight to s
-abbrev pub Seen : List ℕ → ℕ → ℕ → Type 0
-Seen pairs s v = (v ≡ s → ⊥) × ByBytes pairs v s
+-- v has a clear straight to s, by any notion of clear
+abbrev pub Seen : (ℕ → ℕ → Type 0) → ℕ → ℕ → Type 0
+Seen Clear s v = (v ≡ s → ⊥) × Clear v s
+
+-- v is near s by word q: a corner of the row, or the first end
+abbrev pub NearBy : List ℕ → (ℕ → ℕ → Type 0) → ℕ → ℕ → ℕ → ℕ → Type 0
+NearBy blocks Clear s first q v =
+    ((q < 3) × AdjacentBy blocks Clear s v × (64 * q ≤ v) × (v < 64 * q + 64)) ⊎ ((q ≡ 3) × (v ≡ first) × Clear first s)
+
+-- the bits of w are those of the marks near s by word q
+pub record NearWord (blocks : List ℕ) (Clear : ℕ → ℕ → Type 0) (first s q w : ℕ) : Type 0 where
+  pub only : (v : ℕ) → Marked w (near_base first q) v → NearBy blocks Clear s first q v
+  pub all : (v : ℕ) → NearBy blocks Clear s first q v → Marked w (near_base first q) v
