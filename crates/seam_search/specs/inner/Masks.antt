@@ -3,16 +3,15 @@ use Rattle.std.specs.Prelude.{◌≡◌, List, ◌⊎◌, ℕ, ◌+◌, ◌<◌,
 use Rattle.geometry.specs.Words.{Point, word, block_words}
 use Rattle.bits.specs.inner.Bits.{bit}
 use Rattle.seams.specs.inner.Reach.{Touched, Meeting, SharedBy}
-use Rattle.neighbours.specs.inner.Rectangles.{Parted, Bounds}
-use Rattle.neighbours.specs.declared.End.TheVariants.{Least, Greatest}
+use Rattle.neighbours.specs.inner.Rectangles.{Parted, Lows, Highs}
 use Rattle.seam_search.specs.declared.Boxes.{Boxes}
 
 -- the least and the greatest coordinates of every block
 pub record Boxed (blocks : List ℕ) (boxes : Boxes) : Type 0 where
-  pub wests : Bounds blocks 1 Least boxes.west
-  pub easts : Bounds blocks 1 Greatest boxes.east
-  pub souths : Bounds blocks 2 Least boxes.south
-  pub norths : Bounds blocks 2 Greatest boxes.north
+  pub wests : Lows blocks 1 boxes.west
+  pub easts : Highs blocks 1 boxes.east
+  pub souths : Lows blocks 2 boxes.south
+  pub norths : Highs blocks 2 boxes.north
 
 -- one of two blocks ends below the other along a coordinate
 abbrev pub Divided : List ℕ → List ℕ → ℕ → ℕ → Type 0
