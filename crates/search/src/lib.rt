@@ -47,16 +47,25 @@ pub fn listed_place(places: &[u16], v: usize) -> Place
     }
 }
 
+// The marks of a search in one list, where each of them stands, and the sums of key and bound of those that are reached.
+#[derive(Drop)]
+pub struct Waiting {
+    pub order: [u16; 194],
+    pub spot: [u8; 240],
+    pub sums: [u32; 194],
+}
+
 // Lists the corners of the present blocks, and answers how many there are.
-fn open_corners(blocks: &[u16], waiting: &mut [u16], spot: &mut [u8]) -> usize
-    requires { (length blocks.now ≡ 408) × (length waiting.old ≡ 194) × (length spot.old ≡ 240) }
-    ensures { Corners blocks.now waiting.new spot.new 192 result }
+fn open_corners(blocks: &[u16], list: &mut Waiting) -> usize
+    requires { (length blocks.now ≡ 408) }
+    ensures corners { Corners blocks.now list.new.order list.new.spot 192 result }
+    ensures sums { length list.new.sums ≡ 194 }
 {
     let mut n = 0;
     for i in 0..192 {
         if tables::is_corner(blocks, i) {
-            waiting[n] = i as u16;
-            spot[i] = n as u8;
+            list.order[n] = i as u16;
+            list.spot[i] = n as u8;
             n += 1;
         }
     }
@@ -64,13 +73,14 @@ fn open_corners(blocks: &[u16], waiting: &mut [u16], spot: &mut [u8]) -> usize
 }
 
 // Lists them and the first end behind them.
-pub fn list_bends(blocks: &[u16], first: usize, waiting: &mut [u16], spot: &mut [u8]) -> usize
-    requires { (length blocks.now ≡ 408) × (length waiting.old ≡ 194) × (length spot.old ≡ 240) × (192 ≤ first) × (first < 240) }
-    ensures { Ranked blocks.now first waiting.new spot.new result }
+pub fn list_bends(blocks: &[u16], first: usize, list: &mut Waiting) -> usize
+    requires { (length blocks.now ≡ 408) × (192 ≤ first) × (first < 240) }
+    ensures ranked { Ranked blocks.now first list.new.order list.new.spot result }
+    ensures sums { length list.new.sums ≡ 194 }
 {
-    let corners = open_corners(blocks, waiting, spot);
-    waiting[corners] = first as u16;
-    spot[first] = corners as u8;
+    let corners = open_corners(blocks, list);
+    list.order[corners] = first as u16;
+    list.spot[first] = corners as u8;
     corners + 1
 }
 
@@ -134,17 +144,18 @@ fn improved(by: Settled, at: Place, old: u32) -> u32
 }
 
 // Exchanges the marks at the places i and j.
-pub fn swap(waiting: &mut [u16], spot: &mut [u8], i: usize, j: usize)
-    requires waiting_len { (length waiting.old ≡ 194) × (i < 194) × (j < 194) × (word waiting.old i < 240) × (word waiting.old j < 240) × (length spot.old ≡ 240) }
-    requires i_value { (word spot.old (word waiting.old i) ≡ i) × (word spot.old (word waiting.old j) ≡ j) }
-    ensures { Exchanged waiting.old spot.old waiting.new spot.new i j }
+pub fn swap(list: &mut Waiting, i: usize, j: usize)
+    requires waiting_len { (i < 194) × (j < 194) × (word list.old.order i < 240) × (word list.old.order j < 240) }
+    requires i_value { (word list.old.spot (word list.old.order i) ≡ i) × (word list.old.spot (word list.old.order j) ≡ j) }
+    ensures list { Exchanged list.old.order list.old.spot list.new.order list.new.spot i j }
+    ensures sums { list.new.sums ≡ list.old.sums }
 {
-    let a = waiting[i];
-    let b = waiting[j];
-    waiting[i] = b;
-    waiting[j] = a;
-    spot[b as usize] = i as u8;
-    spot[a as usize] = j as u8;
+    let a = list.order[i];
+    let b = list.order[j];
+    list.order[i] = b;
+    list.order[j] = a;
+    list.spot[b as usize] = i as u8;
+    list.spot[a as usize] = j as u8;
 }
 
 // Relaxes mark v by a settled mark that it has a clear straight to, unless it is settled too.
@@ -154,16 +165,14 @@ fn relax_mark(
     by: Settled,
     v: usize,
     u: usize,
-    waiting: &mut [u16],
-    spot: &mut [u8],
+    list: &mut Waiting,
     key: &mut [u32],
-    sums: &mut [u32],
 ) -> usize
     requires places_len { (length places.now ≡ 480) × (by.key ≤ 4294967293) × (v < 240) }
-    requires parted { (Parted (ahead places.now by) waiting.old spot.old key.old sums.old u by.left) × (Here waiting.old spot.old v) }
-    ensures { Passed (ahead places.now by) (via places.now by) (λ x. x ≡ v) waiting.old spot.old key.old waiting.new spot.new key.new sums.new result by.left }
+    requires parted { (Parted (ahead places.now by) list.old.order list.old.spot key.old list.old.sums u by.left) × (Here list.old.order list.old.spot v) }
+    ensures { Passed (ahead places.now by) (via places.now by) (λ x. x ≡ v) list.old.order list.old.spot key.old list.new.order list.new.spot key.new list.new.sums result by.left }
 {
-    let at = spot[v] as usize;
+    let at = list.spot[v] as usize;
     if at >= by.left {
         return u;
     }
@@ -175,11 +184,11 @@ fn relax_mark(
     }
     key[v] = new;
     if at >= u {
-        sums[at] -= old - new;
+        list.sums[at] -= old - new;
         return u;
     }
-    swap(waiting, spot, at, u - 1);
-    sums[u - 1] = new + at_least(by.goal, here);
+    swap(list, at, u - 1);
+    list.sums[u - 1] = new + at_least(by.goal, here);
     u - 1
 }
 
@@ -190,20 +199,18 @@ pub fn relax_word(
     w: u64,
     base: usize,
     u: usize,
-    waiting: &mut [u16],
-    spot: &mut [u8],
+    list: &mut Waiting,
     key: &mut [u32],
-    sums: &mut [u32],
 ) -> usize
     requires places_len { (length places.now ≡ 480) × (by.key ≤ 4294967293) }
-    requires parted { (Parted (ahead places.now by) waiting.old spot.old key.old sums.old u by.left) × ((v : ℕ) → Marked w base v → (v < 240) × (Here waiting.old spot.old v)) }
-    ensures { Passed (ahead places.now by) (via places.now by) (Marked w base) waiting.old spot.old key.old waiting.new spot.new key.new sums.new result by.left }
+    requires parted { (Parted (ahead places.now by) list.old.order list.old.spot key.old list.old.sums u by.left) × ((v : ℕ) → Marked w base v → (v < 240) × (Here list.old.order list.old.spot v)) }
+    ensures { Passed (ahead places.now by) (via places.now by) (Marked w base) list.old.order list.old.spot key.old list.new.order list.new.spot key.new list.new.sums result by.left }
 {
     let mut low = u;
     let mut rest = w;
     while 0 < rest {
         let v = base + bits::lowest(rest) as usize;
-        low = relax_mark(places, by, v, low, waiting, spot, key, sums);
+        low = relax_mark(places, by, v, low, list, key);
         rest = bits::without_lowest(rest);
     }
     low
@@ -288,21 +295,19 @@ pub fn relax<S: Straights>(
     by: Settled,
     first: usize,
     u: usize,
-    waiting: &mut [u16],
-    spot: &mut [u8],
+    list: &mut Waiting,
     key: &mut [u32],
-    sums: &mut [u32],
 ) -> usize
     requires places_len { (length places.now ≡ 480) × (by.key ≤ 4294967293) × (S.told straights.now blocks.now first by.mark) }
     requires first_bound { (first < 240) × (by.mark < 240) × (first ≡ by.mark → ⊥) }
-    requires parted { (Parted (ahead places.now by) waiting.old spot.old key.old sums.old u by.left) × (Bends blocks.now first waiting.old spot.old by.left) }
-    ensures { Passed (ahead places.now by) (via places.now by) (Seen (S.clear straights.now) by.mark) waiting.old spot.old key.old waiting.new spot.new key.new sums.new result by.left }
+    requires parted { (Parted (ahead places.now by) list.old.order list.old.spot key.old list.old.sums u by.left) × (Bends blocks.now first list.old.order list.old.spot by.left) }
+    ensures { Passed (ahead places.now by) (via places.now by) (Seen (S.clear straights.now) by.mark) list.old.order list.old.spot key.old list.new.order list.new.spot key.new list.new.sums result by.left }
 {
     let mut low = u;
     for q in 0..4 {
         let w = straights.near(blocks, first, by.mark, q);
         let base = near_base(first, q);
-        low = relax_word(places, by, w, base, low, waiting, spot, key, sums);
+        low = relax_word(places, by, w, base, low, list, key);
     }
     low
 }

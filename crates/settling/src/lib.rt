@@ -10,7 +10,7 @@ ghost use Rattle.search.specs.inner.Keys.{unreached, Filled, Searched};
 ghost use Rattle.search.specs.inner.Parts.{Places, Ranked, Bends, Parted};
 ghost use Rattle.settling.specs.inner.Turns.{EndSettled, Due, Turned};
 
-use search::{Settled, Straights};
+use search::{Settled, Straights, Waiting};
 
 // Settles the second end of run m, when all n marks are waiting.
 fn settle_end<S: Straights>(
@@ -20,15 +20,13 @@ fn settle_end<S: Straights>(
     straights: &S,
     m: usize,
     n: usize,
-    waiting: &mut [u16],
-    spot: &mut [u8],
+    list: &mut Waiting,
     key: &mut [u32],
-    sums: &mut [u32],
 ) -> usize
     requires fit { (Fit (stored blocks.now runs.now)) × (Places (stored blocks.now runs.now) places.now 240) × (m < 24) }
     requires told { S.told straights.now blocks.now (first_end m) (second_end m) }
-    requires ranked { (Ranked blocks.now (first_end m) waiting.old spot.old n) × (Filled key.old 240 unreached) × (length sums.old ≡ 194) }
-    ensures { EndSettled (stored blocks.now runs.now) (S.clear straights.now) m waiting.old spot.old key.old waiting.new spot.new key.new sums.new result n }
+    requires ranked { (Ranked blocks.now (first_end m) list.old.order list.old.spot n) × (Filled key.old 240 unreached) × (length list.old.sums ≡ 194) }
+    ensures { EndSettled (stored blocks.now runs.now) (S.clear straights.now) m list.old.order list.old.spot key.old list.new.order list.new.spot key.new list.new.sums result n }
 {
     let first = 192 + 2 * m;
     let second = 193 + 2 * m;
@@ -41,9 +39,7 @@ fn settle_end<S: Straights>(
         figure: tables::figure_of(runs),
         goal: search::listed_place(places, first),
     };
-    search::relax(
-        blocks, places, straights, by, first, n, waiting, spot, key, sums,
-    )
+    search::relax(blocks, places, straights, by, first, n, list, key)
 }
 
 // Settles the mark at a place of the list, where n marks are waiting and the first u of them are not reached.
@@ -56,21 +52,19 @@ fn settle_mark<S: Straights>(
     at: usize,
     u: usize,
     n: usize,
-    waiting: &mut [u16],
-    spot: &mut [u8],
+    list: &mut Waiting,
     key: &mut [u32],
-    sums: &mut [u32],
 ) -> usize
     requires fit { (Fit (stored blocks.now runs.now)) × (Places (stored blocks.now runs.now) places.now 240) × (m < 24) }
     requires told { (v : ℕ) → v < 192 → S.told straights.now blocks.now (first_end m) v }
-    requires parted { (Parted (lower_bound (stored blocks.now runs.now) (first_end m)) waiting.old spot.old key.old sums.old u n) × (Bends blocks.now (first_end m) waiting.old spot.old n) × (Due waiting.old key.old u n at) }
-    ensures { Turned (stored blocks.now runs.now) (S.clear straights.now) m waiting.old spot.old key.old waiting.new spot.new key.new sums.new at n result }
+    requires parted { (Parted (lower_bound (stored blocks.now runs.now) (first_end m)) list.old.order list.old.spot key.old list.old.sums u n) × (Bends blocks.now (first_end m) list.old.order list.old.spot n) × (Due list.old.order key.old u n at) }
+    ensures { Turned (stored blocks.now runs.now) (S.clear straights.now) m list.old.order list.old.spot key.old list.new.order list.new.spot key.new list.new.sums at n result }
 {
     let first = 192 + 2 * m;
-    let s = waiting[at] as usize;
+    let s = list.order[at] as usize;
     let left = n - 1;
-    search::swap(waiting, spot, at, left);
-    sums[at] = sums[left];
+    search::swap(list, at, left);
+    list.sums[at] = list.sums[left];
     let by = Settled {
         mark: s,
         place: search::listed_place(places, s),
@@ -79,9 +73,7 @@ fn settle_mark<S: Straights>(
         figure: tables::figure_of(runs),
         goal: search::listed_place(places, first),
     };
-    search::relax(
-        blocks, places, straights, by, first, u, waiting, spot, key, sums,
-    )
+    search::relax(blocks, places, straights, by, first, u, list, key)
 }
 
 // Finds the keys for run m, of which none is reached at first, by the clear straights; answers whether there is a way.
@@ -100,43 +92,21 @@ pub fn settle<S: Straights>(
     ensures { Searched (graph (stored blocks.now runs.now) (S.clear straights.now)) (first_end m) (second_end m) key.new result }
 {
     let first = 192 + 2 * m;
-    let mut waiting = [0u16; 194];
-    let mut spot = [0u8; 240];
-    let mut n = search::list_bends(blocks, first, &mut waiting, &mut spot);
-    let mut sums = [0u32; 194];
-    let mut u = settle_end(
-        blocks,
-        runs,
-        places,
-        straights,
-        m,
-        n,
-        &mut waiting,
-        &mut spot,
-        key,
-        &mut sums,
-    );
+    let mut list = Waiting {
+        order: [0; 194],
+        spot: [0; 240],
+        sums: [0; 194],
+    };
+    let mut n = search::list_bends(blocks, first, &mut list);
+    let mut u = settle_end(blocks, runs, places, straights, m, n, &mut list, key);
     loop {
-        let Some(at) = heaps::least_sum(&sums, u, n) else {
+        let Some(at) = heaps::least_sum(&list.sums, u, n) else {
             return false;
         };
-        if key[first] <= sums[at] {
+        if key[first] <= list.sums[at] {
             return true;
         }
-        u = settle_mark(
-            blocks,
-            runs,
-            places,
-            straights,
-            m,
-            at,
-            u,
-            n,
-            &mut waiting,
-            &mut spot,
-            key,
-            &mut sums,
-        );
+        u = settle_mark(blocks, runs, places, straights, m, at, u, n, &mut list, key);
         n -= 1;
     }
 }

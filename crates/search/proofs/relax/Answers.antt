@@ -1,7 +1,6 @@
 -- The loop keeps: the marks near by the words before q are relaxed.
 use mathlib.Core.Path.{sym, subst, ◌∙◌}
 use Prim.Native.Nat.{ℕ}
-use native.Mathlib.Omega.{arith}
 use Rattle.search.specs.inner.Parts.{Marked}
 use Rattle.search.proofs.Relaxing.{near_none, near_next, near_all, near_here}
 use Rattle.search.proofs.relax.Goals as goal
@@ -29,17 +28,8 @@ relax_word-low-requires g c =
 pub loop-q-preserved : goal.loop-q-preserved
 loop-q-preserved g c = near_next c.loop-q.invariant c.near_base-base.ensures c.near-w.ensures c.relax_word-low.ensures
 
-pub shape_of-waiting : goal.shape_of-waiting
-shape_of-waiting g c = c.loop-q.invariant.parted.sized ∙ sym c.requires.parted.0.sized
-
-pub shape_of-spot : goal.shape_of-spot
-shape_of-spot g c = c.loop-q.invariant.parted.spots ∙ sym c.requires.parted.0.spots
-
 pub shape_of-key : goal.shape_of-key
 shape_of-key g c = c.loop-q.invariant.parted.keyed ∙ sym c.requires.parted.0.keyed
-
-pub shape_of-sums : goal.shape_of-sums
-shape_of-sums g c = c.loop-q.invariant.parted.summed ∙ sym c.requires.parted.0.summed
 
 pub returns : goal.returns
 returns g c = near_all c.loop-q.invariant c.loop-q-test.false c.requires.first_bound.2 c.requires.parted.1

@@ -13,12 +13,12 @@ pub overflow_cast-v : goal.overflow_cast-v
 overflow_cast-v c = omega (arith, c.lowest.ensures.within)
 
 pub overflow_add-v : goal.overflow_add-v
-overflow_add-v c = omega (arith, ((let h : (c.args.base + c.lowest.result < 240) × Here c.args.waiting.now c.args.spot.now (c.args.base + c.lowest.result) = c.requires.parted.1 _ (next_marked c.loop-rest.invariant c.lowest.ensures) in h)).0)
+overflow_add-v c = omega (arith, ((let h : (c.args.base + c.lowest.result < 240) × Here c.args.list.now.order c.args.list.now.spot (c.args.base + c.lowest.result) = c.requires.parted.1 _ (next_marked c.loop-rest.invariant c.lowest.ensures) in h)).0)
 
 pub relax_mark-low-requires : goal.relax_mark-low-requires
 relax_mark-low-requires c =
     let p = c.loop-rest.invariant.passed in
-    let h = (let h : (c.args.base + c.lowest.result < 240) × Here c.args.waiting.now c.args.spot.now (c.args.base + c.lowest.result) = c.requires.parted.1 _ (next_marked c.loop-rest.invariant c.lowest.ensures) in h) in
+    let h = (let h : (c.args.base + c.lowest.result < 240) × Here c.args.list.now.order c.args.list.now.spot (c.args.base + c.lowest.result) = c.requires.parted.1 _ (next_marked c.loop-rest.invariant c.lowest.ensures) in h) in
     record { places_len = (c.requires.places_len.0, c.requires.places_len.1, h.0); parted = (p.parted, p.sorted.here _ h.1) }
 
 pub loop-rest-smaller : goal.loop-rest-smaller
@@ -27,17 +27,8 @@ loop-rest-smaller c = c.without_lowest-rest.ensures.fewer
 pub loop-rest-preserved : goal.loop-rest-preserved
 loop-rest-preserved c = passing_next c.loop-rest.invariant c.lowest.ensures c.relax_mark-low.ensures c.without_lowest-rest.ensures
 
-pub shape_of-waiting : goal.shape_of-waiting
-shape_of-waiting c = c.loop-rest.invariant.passed.parted.sized ∙ sym c.requires.parted.0.sized
-
-pub shape_of-spot : goal.shape_of-spot
-shape_of-spot c = c.loop-rest.invariant.passed.parted.spots ∙ sym c.requires.parted.0.spots
-
 pub shape_of-key : goal.shape_of-key
 shape_of-key c = c.loop-rest.invariant.passed.parted.keyed ∙ sym c.requires.parted.0.keyed
-
-pub shape_of-sums : goal.shape_of-sums
-shape_of-sums c = c.loop-rest.invariant.passed.parted.summed ∙ sym c.requires.parted.0.summed
 
 pub returns : goal.returns
 returns c = passing_all c.loop-rest.invariant (omega arith)

@@ -1,36 +1,18 @@
 -- The loop keeps the state; n, the number of waiting marks, falls.
-use mathlib.Core.Path.{refl, sym, ◌∙◌}
+use mathlib.Core.Path.{sym, ◌∙◌}
 use native.Mathlib.Omega.{arith}
 use Rattle.heaps.proofs.Sums.{found_in, least_end}
 use Rattle.settling.proofs.States.{state_first, bends, none_found, way_found, settled_due, state_next}
 use Rattle.settling.proofs.settle.Goals as goal
 
-pub slice_bounds-list_bends-end : goal.slice_bounds-list_bends-end
-slice_bounds-list_bends-end g c = refl
-
-pub slice_bounds-list_bends-end-2 : goal.slice_bounds-list_bends-end-2
-slice_bounds-list_bends-end-2 g c = refl
-
 pub list_bends-n-requires : goal.list_bends-n-requires
-list_bends-n-requires g c = (c.requires.fit.0.blocks.sized, refl, refl, omega arith, omega (arith, c.requires.m_bound.0))
-
-pub slice_bounds-settle_end-end : goal.slice_bounds-settle_end-end
-slice_bounds-settle_end-end g c = sym c.list_bends-n.ensures.sized
-
-pub slice_bounds-settle_end-end-2 : goal.slice_bounds-settle_end-end-2
-slice_bounds-settle_end-end-2 g c = sym c.list_bends-n.ensures.spots
-
-pub slice_bounds-settle_end-end-3 : goal.slice_bounds-settle_end-end-3
-slice_bounds-settle_end-end-3 g c = refl
+list_bends-n-requires g c = (c.requires.fit.0.blocks.sized, omega arith, omega (arith, c.requires.m_bound.0))
 
 pub settle_end-u-requires : goal.settle_end-u-requires
-settle_end-u-requires g c = record { fit = (c.requires.fit.0, c.requires.fit.1, c.requires.m_bound.0); told = c.requires.told.0; ranked = (c.list_bends-n.ensures, c.requires.m_bound.1, refl) }
+settle_end-u-requires g c = record { fit = (c.requires.fit.0, c.requires.fit.1, c.requires.m_bound.0); told = c.requires.told.0; ranked = (c.list_bends-n.ensures.ranked, c.requires.m_bound.1, c.list_bends-n.ensures.sums) }
 
 pub loop-at-init : goal.loop-at-init
-loop-at-init g c = state_first c.requires.fit.0 c.requires.m_bound.0 c.list_bends-n.ensures c.requires.m_bound.1 c.settle_end-u.ensures
-
-pub slice_bounds-least_sum-end : goal.slice_bounds-least_sum-end
-slice_bounds-least_sum-end g c = sym c.loop-at.invariant.parted.summed
+loop-at-init g c = state_first c.requires.fit.0 c.requires.m_bound.0 c.list_bends-n.ensures.ranked c.requires.m_bound.1 c.settle_end-u.ensures
 
 pub least_sum-requires : goal.least_sum-requires
 least_sum-requires g c = (omega (arith, c.loop-at.invariant.parted.summed, c.loop-at.invariant.parted.few), c.loop-at.invariant.parted.low)
@@ -47,26 +29,17 @@ offset_bounds-key-first g c = omega (arith, c.requires.m_bound.0)
 pub bounds-key-first : goal.bounds-key-first
 bounds-key-first g c = omega (arith, c.loop-at.invariant.parted.keyed, c.requires.m_bound.0)
 
-pub offset_bounds-sums-at : goal.offset_bounds-sums-at
-offset_bounds-sums-at g c = omega (arith, c.loop-at.invariant.parted.summed, c.loop-at.invariant.parted.few, (found_in _ _ _ _ c.in-Some.ensures).0)
+pub offset_bounds-list-at : goal.offset_bounds-list-at
+offset_bounds-list-at g c = omega (arith, c.loop-at.invariant.parted.few, (found_in _ _ _ _ c.in-Some.ensures).0)
 
-pub bounds-sums-at : goal.bounds-sums-at
-bounds-sums-at g c = omega (arith, c.loop-at.invariant.parted.summed, c.loop-at.invariant.parted.few, (found_in _ _ _ _ c.in-Some.ensures).0)
+pub bounds-list-at : goal.bounds-list-at
+bounds-list-at g c = omega (arith, c.loop-at.invariant.parted.few, (found_in _ _ _ _ c.in-Some.ensures).0)
 
 pub shape_of-key-then-key-first : goal.shape_of-key-then-key-first
 shape_of-key-then-key-first g c = c.loop-at.invariant.parted.keyed ∙ sym c.requires.m_bound.1.sized
 
 pub returns-then-key-first : goal.returns-then-key-first
 returns-then-key-first g c = way_found c.loop-at.invariant (found_in _ _ _ _ c.in-Some.ensures).1 (found_in _ _ _ _ c.in-Some.ensures).0 c.if-key-first.true
-
-pub slice_bounds-settle_mark-end : goal.slice_bounds-settle_mark-end
-slice_bounds-settle_mark-end g c = sym c.loop-at.invariant.parted.sized
-
-pub slice_bounds-settle_mark-end-in-loop-at : goal.slice_bounds-settle_mark-end-in-loop-at
-slice_bounds-settle_mark-end-in-loop-at g c = sym c.loop-at.invariant.parted.spots
-
-pub slice_bounds-settle_mark-end-in-loop-at-2 : goal.slice_bounds-settle_mark-end-in-loop-at-2
-slice_bounds-settle_mark-end-in-loop-at-2 g c = sym c.loop-at.invariant.parted.summed
 
 pub settle_mark-u-requires : goal.settle_mark-u-requires
 settle_mark-u-requires g c =
