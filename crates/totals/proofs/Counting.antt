@@ -1,15 +1,16 @@
 -- Bytes counted one by one.
 use mathlib.Core.Path.{◌≡◌, refl, sym, ◌∙◌}
 use mathlib.Core.Logic.{◌≢◌}
-use mathlib.Core.List.{List, [], ◌∷◌}
+use mathlib.Core.List.{List, [], ◌∷◌, ◌++◌}
 use mathlib.Core.Bool.{Bool, true, false, cond}
 use Prim.Native.Nat.{ℕ, zero, suc, ◌+◌, ◌<◌, ◌≤◌}
 use native.Mathlib.Omega.{arith}
 use native.Mathlib.Decide.{ℕ_discrete}
 use native.Mathlib.Numerals.{add-one}
 use lib.Dec.{eqb}
-use lib.ListN.{length, set, take, replicate, length-set, length-take}
-use lib.Seq.{take_all, get_or-set_same, get_or-set_other}
+use lib.ListN.{length, set, take, drop, replicate, length-set, length-take, length-drop, length-append, get_or-append}
+use Rattle.std.proofs.lemmas.List.{get_or-take}
+use lib.Seq.{get_or-set_same, get_or-set_other}
 use borrow.Author.Tests.{eq-eqb, ne_eqb}
 use mir.Syntax.{w32}
 use mir.Val.{Fits}
@@ -75,19 +76,12 @@ tally_next bs cs i l s t = record { sized = length-set cs _ _ ∙ t.sized; each 
         let none : eqb (word bs i) b ≡ false = ne_eqb _ _ (λ q. e (sym q)) in
         rw (count_next b i bs l, none) (get_or-set_other cs (word bs i) b (word cs (word bs i) + 1) 0 e ∙ t.each b h ∙ omega arith)
 
-pub tally_all : (bs cs : List ℕ) (i : ℕ) → length bs ≤ i → Tallied (take i bs) cs → Tallied bs cs
-tally_all bs cs i l t = rw (take_all i bs l) at t
-
 -- ---- the counts that are copied
-pub copy_none : (cs t : List ℕ) → length t ≡ 25 → CopiedTo cs t 0
-copy_none cs t e = record { sized = e; each = λ k h. absurd (omega arith) }
-
-pub copy_next : (cs t : List ℕ) (n : ℕ) → n < 24 → CopiedTo cs t n → CopiedTo cs (set t n (word cs n)) (n + 1)
-copy_next cs t n l c = record { sized = length-set t n (word cs n) ∙ c.sized; each = λ k h. go k h (ℕ_discrete k n) }
-  where
-    go : (k : ℕ) → k < n + 1 → Dec (k ≡ n) → word (set t n (word cs n)) k ≡ word cs k
-    go k h (yes e) = rw e (get_or-set_same t n (word cs n) 0 (omega (arith, c.sized)))
-    go k h (no e) = get_or-set_other t n k (word cs n) 0 e ∙ c.each k (omega arith)
-
-pub copy_all : (cs t : List ℕ) (n : ℕ) → 24 ≤ n → CopiedTo cs t n → CopiedTo cs t 24
-copy_all cs t n l c = record { sized = c.sized; each = λ k h. c.each k (omega arith) }
+pub copied : (cs t new : List ℕ) → length cs ≡ 256 → length t ≡ 25 → new ≡ take 24 cs → CopiedTo cs (new ++ drop 24 t) 24
+copied cs t new a b e =
+    let size : length (take 24 cs) ≡ 24 = omega (arith, length-take 24 cs) in
+    rw e
+    (record {
+      sized = length-append (take 24 cs) (drop 24 t) ∙ omega (arith, size, length-drop 24 t);
+      each = λ k h. get_or-append (take 24 cs) (drop 24 t) 0 k (omega (arith, size)) ∙ get_or-take 24 cs k 0 h;
+    })

@@ -5,28 +5,17 @@ use Prim.Native.Nat.{ℕ, zero, suc, ◌+◌, ◌*◌, ◌-◌, ◌<◌, ◌≤�
 use native.Mathlib.Omega.{arith}
 use native.Mathlib.Numerals.{add-one}
 use lib.ListN.{length, take, drop}
-use borrow.Author.Tests.{eq-eqb, ne_eqb}
-use Rattle.geometry.specs.Words.{word}
 use Rattle.paths.specs.Path.{Graph, Chain, last, more, total}
 use Rattle.paths.proofs.Short.{chain_two, total_more}
 use Rattle.tables.specs.Tables.{Records, route_words, first_end, second_end}
 use Rattle.tables.specs.inner.Fit.{Fit}
-use Rattle.search.specs.Network.{cost, graph}
+use Rattle.search.specs.Network.{graph}
 use Rattle.search.proofs.Network.{Sized, sized}
 use Rattle.routing.specs.Routes.{RouteIs, no_run, found, no_way, Routed}
 use Rattle.routing.proofs.Written.{lent_part}
 use Rattle.routing.proofs.Fits.{route_short}
 use Rattle.totals.specs.Totals.{found_length, found_sum}
 use Rattle.totals.specs.inner.Addable.{Addable}
-
--- ---- one record
-pub found_yes : (ws : List ℕ) → word ws 0 ≡ 1 → word ws 1 ≡ found_length ws
-unfolding found_length
-found_yes ws e = rw (eq-eqb _ _ e)
-
-pub found_no : (ws : List ℕ) → (word ws 0 ≡ 1 → ⊥) → 0 ≡ found_length ws
-unfolding found_length
-found_no ws d = rw (ne_eqb _ _ d)
 
 -- ---- the sum
 pub sum_none : (routes : List ℕ) → 0 ≡ found_sum 0 routes
@@ -46,9 +35,6 @@ sum_small routes (suc m) a l = omega (arith, sum_small routes m a (omega arith),
 pub sum_fits : (routes : List ℕ) (m sum r : ℕ) → Addable routes → m < 24 → sum ≡ found_sum m routes → r ≡ found_length (take (197 * m + 197 - 197 * m) (drop (197 * m) routes))
     → sum + r < 4294967296
 sum_fits routes m sum r a l s e = omega (arith, sum_small routes m a (omega arith), a.each m l, ap found_length (lent_part routes m))
-
-pub sum_done : (routes : List ℕ) (m sum : ℕ) → m ≤ 24 → 24 ≤ m → sum ≡ found_sum m routes → sum ≡ found_sum 24 routes
-sum_done routes m sum l h e = let q : m ≡ 24 = omega arith in rw q at e
 
 pub sum_zero : (routes : List ℕ) (m : ℕ) → ((k : ℕ) → k < m → found_length (route_words routes k) ≡ 0) → found_sum m routes ≡ 0
 unfolding found_sum
