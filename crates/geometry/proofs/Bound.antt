@@ -49,6 +49,10 @@ pub within_fits : {k : ℕ} {z : ℤ} → Within k z → k < 2 ^ 63 → SFits w6
 within_fits {k} {z = pos n} f h = record { sfits = omega (arith, f.within) }
 within_fits {k} {z = negsuc n} f h = record { sfits = omega (arith, f.within) }
 
+-- a turn fits
+pub turn_fits : {z : ℤ} → Within 2200000000 z → SFits w64 z
+turn_fits w = within_fits w (lit< tt)
+
 -- the difference of two naturals
 pub within_gap : (k a b : ℕ) → a ≤ k → b ≤ k → Within k (pos a -ℤ pos b)
 within_gap k a b h i = record { within = go a b h i }

@@ -159,7 +159,9 @@ pub fn overlaps(words: &[u16], a: Place, b: Place) -> bool
     abreast(words, 1, a.east, b.east) && abreast(words, 2, a.north, b.north)
 }
 
-// The first of the blocks from..to that overlaps the segment from a to b.
+// The first of the blocks from..to that overlaps the segment from a to b. A function of its own, so that passing far blocks
+// and going round sides each have the registers to themselves.
+#[inline(never)]
 fn first_overlapping(blocks: &[u16], from: usize, to: usize, a: Place, b: Place) -> Option<usize>
     requires { (Bounded blocks.now) × (to ≤ 24) }
     ensures { FirstOverlapping blocks.now from to (point_of a) (point_of b) result }

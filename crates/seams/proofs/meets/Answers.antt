@@ -1,27 +1,20 @@
 use mathlib.Core.Bool.{true≢false}
 use mathlib.Core.Path.{sym, ◌∙◌}
-use lib.IntN.{ℤ, pos}
-use lib.Dec.{lit<}
-use mir.Syntax.{w64}
-use mir.Val.{SFits}
+use lib.IntN.{pos}
 use Rattle.lists.proofs.Telling.{tells_yes}
-use Rattle.geometry.specs.inner.Sides.{Within}
-use Rattle.geometry.proofs.Bound.{here_yes, here_no, fits_zero, within_fits}
+use Rattle.geometry.proofs.Bound.{here_yes, here_no, fits_zero, turn_fits}
 use Rattle.geometry.proofs.Narrowing.{steeper_yes, steeper_no}
 use Rattle.seams.proofs.Rounds.{common_first, common_last, common_tells}
 use Rattle.seams.proofs.meets.Goals as goal
 use Rattle.seams.proofs.meets.Goals.{then-s-lt0, else-s-lt0, then-s-lt0-2, else-s-lt0-2}
 
-fits : {z : ℤ} → Within 2200000000 z → SFits w64 z
-fits w = within_fits w (lit< tt)
-
 pub returns : goal.returns
 returns c =
     let n = c.requires.small in
-    let fl = fits n.small_l in
-    let fr = fits n.small_r in
-    let fp = fits n.small_p in
-    let fq = fits n.small_q in
+    let fl = turn_fits n.small_l in
+    let fr = turn_fits n.small_r in
+    let fp = turn_fits n.small_p in
+    let fq = turn_fits n.small_q in
     let e = c.requires.ends in
     elim c.if-s-lt0-2.branch [
       | then-s-lt0-2 w ↦ rw w.result-is

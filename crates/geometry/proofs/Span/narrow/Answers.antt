@@ -1,17 +1,10 @@
 use mathlib.Core.Logic.{⊎_elim}
-use lib.IntN.{ℤ, pos}
+use lib.IntN.{pos}
 use lib.Signed.{◌<ℤ◌, clash_ℤ}
-use lib.Dec.{lit<}
-use mir.Syntax.{w64}
-use mir.Val.{SFits}
 use mir.ValLaws.{to_z-of_z}
-use Rattle.geometry.specs.inner.Sides.{Within}
-use Rattle.geometry.proofs.Bound.{within_fits, here_yes, here_no, fits_zero}
+use Rattle.geometry.proofs.Bound.{turn_fits, here_yes, here_no, fits_zero}
 use Rattle.geometry.proofs.Narrowing.{step_both, step_up, step_up_keep, step_low, step_low_keep, steeper_yes, steeper_no}
 use Rattle.geometry.proofs.Span.narrow.Goals as goal
-
-fits : {z : ℤ} → Within 2200000000 z → SFits w64 z
-fits w = within_fits w (lit< tt)
 
 pub returns-then-y-gt0 : goal.returns-then-y-gt0
 returns-then-y-gt0 c =
@@ -24,17 +17,17 @@ returns-then-steeper c =
     let s = c.requires.small in
     let fx = c.ranges.x in
     let fy = c.ranges.y in
-    let fl = fits s.small_l in
-    let fr = fits s.small_r in
+    let fl = turn_fits s.small_l in
+    let fr = turn_fits s.small_r in
     simp to_z-of_z
     (step_up _ _ _ _ a.x a.y s c.requires.side.0 c.requires.side.1 (here_yes (pos 0) c.args.x fits_zero fx c.if-x-gt0.true)
-    (steeper_yes a.y a.x _ _ fy fx (fits s.small_q) (fits s.small_p) c.steeper.ensures c.if-steeper.true))
+    (steeper_yes a.y a.x _ _ fy fx (turn_fits s.small_q) (turn_fits s.small_p) c.steeper.ensures c.if-steeper.true))
 
 pub returns-then-x-gt0 : goal.returns-then-x-gt0
 returns-then-x-gt0 c =
     let s = c.requires.small in
     step_up_keep _ _ _ _ _ _ s c.requires.side.0 c.requires.side.1 (here_yes (pos 0) c.args.x fits_zero c.ranges.x c.if-x-gt0.true)
-    (steeper_no _ _ _ _ c.ranges.y c.ranges.x (fits s.small_q) (fits s.small_p) c.steeper.ensures c.if-steeper.false)
+    (steeper_no _ _ _ _ c.ranges.y c.ranges.x (turn_fits s.small_q) (turn_fits s.small_p) c.steeper.ensures c.if-steeper.false)
 
 pub returns-then-steeper-2 : goal.returns-then-steeper-2
 returns-then-steeper-2 c =
@@ -42,16 +35,16 @@ returns-then-steeper-2 c =
     let s = c.requires.small in
     let fx = c.ranges.x in
     let fy = c.ranges.y in
-    let fp = fits s.small_p in
-    let fq = fits s.small_q in
+    let fp = turn_fits s.small_p in
+    let fq = turn_fits s.small_q in
     let h : pos 0 <ℤ c.args.y = ⊎_elim (λ h. clash_ℤ h (here_no (pos 0) c.args.x fits_zero fx c.if-x-gt0.false)) (λ h. h) c.requires.side.2 in
     simp to_z-of_z
     (step_low _ _ _ _ a.x a.y s c.requires.side.0 c.requires.side.1 h
-    (steeper_yes a.x a.y _ _ fx fy (fits s.small_l) (fits s.small_r) c.steeper-2.ensures c.if-steeper-2.true))
+    (steeper_yes a.x a.y _ _ fx fy (turn_fits s.small_l) (turn_fits s.small_r) c.steeper-2.ensures c.if-steeper-2.true))
 
 pub returns : goal.returns
 returns c =
     let s = c.requires.small in
     let h : pos 0 <ℤ c.args.y = ⊎_elim (λ h. clash_ℤ h (here_no (pos 0) c.args.x fits_zero c.ranges.x c.if-x-gt0.false)) (λ h. h) c.requires.side.2 in
     step_low_keep _ _ _ _ _ _ s c.requires.side.0 c.requires.side.1 h
-    (steeper_no _ _ _ _ c.ranges.x c.ranges.y (fits s.small_l) (fits s.small_r) c.steeper-2.ensures c.if-steeper-2.false)
+    (steeper_no _ _ _ _ c.ranges.x c.ranges.y (turn_fits s.small_l) (turn_fits s.small_r) c.steeper-2.ensures c.if-steeper-2.false)

@@ -1,8 +1,7 @@
 use mathlib.Core.Bool.{true≢false}
 use mathlib.Core.Path.{sym, ◌∙◌}
 use lib.IntN.{pos}
-use lib.Dec.{lit<}
-use Rattle.geometry.proofs.Bound.{here_yes, here_no, fits_zero, within_fits}
+use Rattle.geometry.proofs.Bound.{here_yes, here_no, fits_zero, turn_fits}
 use Rattle.geometry.proofs.Narrowing.{parts, steeper_yes, steeper_no}
 use Rattle.lists.proofs.Telling.{tells_yes}
 use Rattle.geometry.proofs.Weights.{meet_first, meet_last}
@@ -14,16 +13,16 @@ returns-then-self-gt0-2 c =
     rw c.if-self-gt0-2.true
     (tells_yes
     (elim c.if-self-gt0.branch [
-      | then-self-gt0 w ↦ meet_first _ _ _ _ (here_yes (pos 0) _ fits_zero (within_fits c.requires.small.small_l (lit< tt)) w.if-self-gt0.true) c.requires.above.1
-      | else-self-gt0 w ↦ meet_last _ _ _ _ c.requires.above.0 (here_yes (pos 0) _ fits_zero (within_fits c.requires.small.small_q (lit< tt)) (sym w.value-is ∙ c.if-self-gt0-2.true))
+      | then-self-gt0 w ↦ meet_first _ _ _ _ (here_yes (pos 0) _ fits_zero (turn_fits c.requires.small.small_l) w.if-self-gt0.true) c.requires.above.1
+      | else-self-gt0 w ↦ meet_last _ _ _ _ c.requires.above.0 (here_yes (pos 0) _ fits_zero (turn_fits c.requires.small.small_q) (sym w.value-is ∙ c.if-self-gt0-2.true))
     ]))
 
 pub returns-else-self-gt0-2 : goal.returns-else-self-gt0-2
 returns-else-self-gt0-2 c =
-    let fl = within_fits c.requires.small.small_l (lit< tt) in
-    let fr = within_fits c.requires.small.small_r (lit< tt) in
-    let fp = within_fits c.requires.small.small_p (lit< tt) in
-    let fq = within_fits c.requires.small.small_q (lit< tt) in
+    let fl = turn_fits c.requires.small.small_l in
+    let fr = turn_fits c.requires.small.small_r in
+    let fp = turn_fits c.requires.small.small_p in
+    let fq = turn_fits c.requires.small.small_q in
     elim c.if-self-gt0.branch [
       | then-self-gt0 w ↦ absurd (true≢false (sym w.if-self-gt0.true ∙ (sym w.value-is ∙ c.if-self-gt0-2.false)))
       | else-self-gt0 w ↦ parts _ _ _ _ c.steeper.result
