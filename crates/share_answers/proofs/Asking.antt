@@ -91,6 +91,3 @@ module _ (r hs : List ℕ) (t : Terms) (c m : ℕ) where
 
     pub in_holders : length hs ≡ 24 → m < length hs
     in_holders e = omega (arith, number_below)
-
-    pub in_ceilings : (ce : List ℕ) → length ce ≡ 4 → c < length ce
-    in_ceilings ce e = omega (arith, contractor_below)

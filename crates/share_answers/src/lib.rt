@@ -12,28 +12,17 @@ ghost use Rattle.share_answers.specs.inner.Asked.{run_places, named_asked, add_a
 
 use refusals::Refusal;
 
-// How many runs a contractor holds.
-fn held(holders: &[u8], contractor: u32) -> u32
-    requires { length holders.now ≡ 24 }
-    ensures { (result ≡ held holders.now contractor) × (result ≤ 24) }
-{
-    let mut n = 0;
-    for holder in holders {
-        n += u32::from(u32::from(*holder) == contractor);
-    }
-    n
-}
-
-// How many run numbers are free.
-fn free_numbers(runs: &[u16]) -> u32
-    requires { length runs.now ≡ 121 }
-    ensures { (result ≡ free_numbers (run_places runs.now)) × (result ≤ 24) }
-{
-    let mut n = 0;
-    for m in 0..24 {
-        n += u32::from(runs[5 * m] == 0);
-    }
-    n
+// The run table and the three lists that a call in a contractor's name is lent, each as long as stated.
+#[derive(Clone, Copy)]
+pub struct Lent<'a> {
+    pub runs: &'a [u16],
+    pub holders: &'a [u8],
+    pub shares: &'a [u8],
+    pub ceilings: &'a [u8],
+    ghost long_runs: { length runs.now ≡ 121 },
+    ghost long_holders: { length holders.now ≡ 24 },
+    ghost long_shares: { length shares.now ≡ 4 },
+    ghost long_ceilings: { length ceilings.now ≡ 4 },
 }
 
 // What is left of a share.
@@ -43,94 +32,10 @@ fn left_of(share: u8, holding: u32) -> u32
     u32::from(share).saturating_sub(holding)
 }
 
-// What is left of all shares.
-fn unfilled(holders: &[u8], shares: &[u8]) -> u32
-    requires { (length holders.now ≡ 24) × (length shares.now ≡ 4) }
-    ensures { (result ≡ unfilled holders.now shares.now) × (result ≤ 1020) }
-{
-    let mut n = 0;
-    for c in 0..4 {
-        n += left_of(shares[c as usize], held(holders, c));
-    }
-    n
-}
-
-// What is left of the shares of all but one contractor.
-fn unfilled_others(holders: &[u8], shares: &[u8], contractor: u32) -> u32
-    requires { (length holders.now ≡ 24) × (length shares.now ≡ 4) × (contractor < 4) }
-    ensures { result ≡ unfilled_others holders.now shares.now contractor }
-{
-    let own = left_of(shares[contractor as usize], held(holders, contractor));
-    unfilled(holders, shares) - own
-}
-
-// No share is above its ceiling.
-fn shares_below(shares: &[u8], ceilings: &[u8]) -> bool
-    requires { (length shares.now ≡ 4) × (length ceilings.now ≡ 4) }
-    ensures { result ≡ all_below 4 (λ c. leb (word shares.now c) (word ceilings.now c)) }
-{
-    (0..4).all(|c| shares[c] <= ceilings[c])
-}
-
-// All shares together.
-fn promised(shares: &[u8]) -> u32
-    requires { length shares.now ≡ 4 }
-    ensures { result ≡ sum_below 4 (λ c. word shares.now c) }
-{
-    let mut n = 0;
-    for share in shares {
-        n += u32::from(*share);
-    }
-    n
-}
-
-#[tactic(auto, unfolding(shares::specs::Shares::terms_right))]
-fn terms_right(shares: &[u8], ceilings: &[u8]) -> bool
-    requires { (length shares.now ≡ 4) × (length ceilings.now ≡ 4) }
-    ensures { result ≡ terms_right (terms shares.now ceilings.now) }
-{
-    shares_below(shares, ceilings) && promised(shares) <= 24
-}
-
 fn holder_right(absent: bool, holder: u8) -> bool
     ensures { result ≡ holder_right absent holder }
 {
     if absent { holder == 255 } else { holder < 4 }
-}
-
-// Each run's holder is a contractor, each absent one's is 255.
-fn holders_right(runs: &[u16], holders: &[u8]) -> bool
-    requires { (length runs.now ≡ 121) × (length holders.now ≡ 24) }
-    ensures { result ≡ holders_right (run_places runs.now) holders.now }
-{
-    (0..24).all(|m| holder_right(runs[5 * m] == 0, holders[m]))
-}
-
-fn holding_right(holders: &[u8], ceiling: u8, contractor: u32) -> bool
-    requires { length holders.now ≡ 24 }
-    ensures { result ≡ leb (held holders.now contractor) ceiling }
-{
-    held(holders, contractor) <= u32::from(ceiling)
-}
-
-// No holding is above its ceiling.
-fn holdings_right(holders: &[u8], shares: &[u8], ceilings: &[u8]) -> bool
-    requires { (length holders.now ≡ 24) × (length ceilings.now ≡ 4) }
-    ensures { result ≡ holdings_right (terms shares.now ceilings.now) holders.now }
-{
-    (0..4).all(|c| holding_right(holders, ceilings[c as usize], c))
-}
-
-// Question 18.
-#[tactic(auto, unfolding(shares::specs::Shares::shares_right))]
-fn shares_right(runs: &[u16], holders: &[u8], shares: &[u8], ceilings: &[u8]) -> bool
-    requires { (length runs.now ≡ 121) × (length holders.now ≡ 24) × (length shares.now ≡ 4) × (length ceilings.now ≡ 4) }
-    ensures { result ≡ shares_right (run_places runs.now) (terms shares.now ceilings.now) holders.now }
-{
-    terms_right(shares, ceilings)
-        && holders_right(runs, holders)
-        && holdings_right(holders, shares, ceilings)
-        && unfilled(holders, shares) <= free_numbers(runs)
 }
 
 // Question 3.
@@ -140,85 +45,162 @@ fn names_right(contractor: u32, number: u32) -> bool
     contractor < 4 && number < 24
 }
 
-// Question 19.
-fn below_ceiling(holders: &[u8], ceiling: u8, contractor: u32) -> bool
-    requires { length holders.now ≡ 24 }
-    ensures { result ≡ ltb (held holders.now contractor) ceiling }
-{
-    held(holders, contractor) < u32::from(ceiling)
-}
+impl Lent<'_> {
+    // How many runs a contractor holds.
+    fn held(&self, contractor: u32) -> u32
+        ensures { (result ≡ held self.now.holders.now contractor) × (result ≤ 24) }
+    {
+        let mut n = 0;
+        for holder in self.holders {
+            n += u32::from(u32::from(*holder) == contractor);
+        }
+        n
+    }
 
-// Question 20.
-fn spares_others(runs: &[u16], holders: &[u8], shares: &[u8], contractor: u32) -> bool
-    requires { (length runs.now ≡ 121) × (length holders.now ≡ 24) × (length shares.now ≡ 4) × (contractor < 4) }
-    ensures { result ≡ ltb (unfilled_others holders.now shares.now contractor) (free_numbers (run_places runs.now)) }
-{
-    unfilled_others(holders, shares, contractor) < free_numbers(runs)
-}
+    // How many run numbers are free.
+    fn free_numbers(&self) -> u32
+        ensures { (result ≡ free_numbers (run_places self.now.runs.now)) × (result ≤ 24) }
+    {
+        let mut n = 0;
+        for m in 0..24 {
+            n += u32::from(self.runs[5 * m] == 0);
+        }
+        n
+    }
 
-// Questions 18 and 3.
-#[tactic(auto, unfolding(crate::specs::inner::Asked::named_asked, book::specs::Questions::first_no))]
-fn named_answer(
-    runs: &[u16],
-    holders: &[u8],
-    shares: &[u8],
-    ceilings: &[u8],
-    contractor: u32,
-    number: u32,
-) -> Result<(), Refusal>
-    requires { (length runs.now ≡ 121) × (length holders.now ≡ 24) × (length shares.now ≡ 4) × (length ceilings.now ≡ 4) }
-    ensures { answer_of result ≡ first_no (named_asked (run_places runs.now) (terms shares.now ceilings.now) holders.now contractor number) }
-{
-    if !shares_right(runs, holders, shares, ceilings) {
-        return Err(Refusal::SharesDisagree);
+    // What is left of all shares.
+    fn unfilled(&self) -> u32
+        ensures { (result ≡ unfilled self.now.holders.now self.now.shares.now) × (result ≤ 1020) }
+    {
+        let mut n = 0;
+        for c in 0..4 {
+            n += left_of(self.shares[c as usize], self.held(c));
+        }
+        n
     }
-    if !names_right(contractor, number) {
-        return Err(Refusal::NoSuchNumber);
-    }
-    Ok(())
-}
 
-// Questions 18, 3, 4, 19 and 20, of an addition.
-pub fn add_answer(
-    runs: &[u16],
-    holders: &[u8],
-    shares: &[u8],
-    ceilings: &[u8],
-    contractor: u32,
-    number: u32,
-) -> Result<(), Refusal>
-    requires { (length runs.now ≡ 121) × (length holders.now ≡ 24) × (length shares.now ≡ 4) × (length ceilings.now ≡ 4) }
-    ensures { answer_of result ≡ first_no (add_asked (run_places runs.now) (terms shares.now ceilings.now) holders.now contractor number) }
-{
-    named_answer(runs, holders, shares, ceilings, contractor, number)?;
-    if runs[5 * (number as usize)] != 0 {
-        return Err(Refusal::Taken);
+    // What is left of the shares of all but one contractor.
+    fn unfilled_others(&self, contractor: u32) -> u32
+        requires { contractor < 4 }
+        ensures { result ≡ unfilled_others self.now.holders.now self.now.shares.now contractor }
+    {
+        let own = left_of(self.shares[contractor as usize], self.held(contractor));
+        self.unfilled() - own
     }
-    if !below_ceiling(holders, ceilings[contractor as usize], contractor) {
-        return Err(Refusal::AtTheCeiling);
-    }
-    if !spares_others(runs, holders, shares, contractor) {
-        return Err(Refusal::PromisedToOthers);
-    }
-    Ok(())
-}
 
-// Questions 18, 3 and 5, of a removal and of a move.
-pub fn own_answer(
-    runs: &[u16],
-    holders: &[u8],
-    shares: &[u8],
-    ceilings: &[u8],
-    contractor: u32,
-    number: u32,
-) -> Result<(), Refusal>
-    requires { (length runs.now ≡ 121) × (length holders.now ≡ 24) × (length shares.now ≡ 4) × (length ceilings.now ≡ 4) }
-    ensures { answer_of result ≡ first_no (own_asked (run_places runs.now) (terms shares.now ceilings.now) holders.now contractor number) }
-{
-    named_answer(runs, holders, shares, ceilings, contractor, number)?;
-    let m = number as usize;
-    if runs[5 * m] == 0 || u32::from(holders[m]) != contractor {
-        return Err(Refusal::Absent);
+    // No share is above its ceiling.
+    fn shares_below(&self) -> bool
+        ensures { result ≡ all_below 4 (λ c. leb (word self.now.shares.now c) (word self.now.ceilings.now c)) }
+    {
+        (0..4).all(|c| self.shares[c] <= self.ceilings[c])
     }
-    Ok(())
+
+    // All shares together.
+    fn promised(&self) -> u32
+        ensures { result ≡ sum_below 4 (λ c. word self.now.shares.now c) }
+    {
+        let mut n = 0;
+        for share in self.shares {
+            n += u32::from(*share);
+        }
+        n
+    }
+
+    #[tactic(auto, unfolding(shares::specs::Shares::terms_right))]
+    fn terms_right(&self) -> bool
+        ensures { result ≡ terms_right (terms self.now.shares.now self.now.ceilings.now) }
+    {
+        self.shares_below() && self.promised() <= 24
+    }
+
+    // Each run's holder is a contractor, each absent one's is 255.
+    fn holders_right(&self) -> bool
+        ensures { result ≡ holders_right (run_places self.now.runs.now) self.now.holders.now }
+    {
+        (0..24).all(|m| holder_right(self.runs[5 * m] == 0, self.holders[m]))
+    }
+
+    fn holding_right(&self, contractor: u32) -> bool
+        requires { contractor < 4 }
+        ensures { result ≡ leb (held self.now.holders.now contractor) (word self.now.ceilings.now contractor) }
+    {
+        self.held(contractor) <= u32::from(self.ceilings[contractor as usize])
+    }
+
+    // No holding is above its ceiling.
+    fn holdings_right(&self) -> bool
+        ensures { result ≡ holdings_right (terms self.now.shares.now self.now.ceilings.now) self.now.holders.now }
+    {
+        (0..4).all(|c| self.holding_right(c))
+    }
+
+    // Question 18.
+    #[tactic(auto, unfolding(shares::specs::Shares::shares_right))]
+    fn shares_right(&self) -> bool
+        ensures { result ≡ shares_right (run_places self.now.runs.now) (terms self.now.shares.now self.now.ceilings.now) self.now.holders.now }
+    {
+        self.terms_right()
+            && self.holders_right()
+            && self.holdings_right()
+            && self.unfilled() <= self.free_numbers()
+    }
+
+    // Question 19.
+    fn below_ceiling(&self, contractor: u32) -> bool
+        requires { contractor < 4 }
+        ensures { result ≡ ltb (held self.now.holders.now contractor) (word self.now.ceilings.now contractor) }
+    {
+        self.held(contractor) < u32::from(self.ceilings[contractor as usize])
+    }
+
+    // Question 20.
+    fn spares_others(&self, contractor: u32) -> bool
+        requires { contractor < 4 }
+        ensures { result ≡ ltb (unfilled_others self.now.holders.now self.now.shares.now contractor) (free_numbers (run_places self.now.runs.now)) }
+    {
+        self.unfilled_others(contractor) < self.free_numbers()
+    }
+
+    // Questions 18 and 3.
+    #[tactic(auto, unfolding(crate::specs::inner::Asked::named_asked, book::specs::Questions::first_no))]
+    fn named_answer(&self, contractor: u32, number: u32) -> Result<(), Refusal>
+        ensures { answer_of result ≡ first_no (named_asked (run_places self.now.runs.now) (terms self.now.shares.now self.now.ceilings.now) self.now.holders.now contractor number) }
+    {
+        if !self.shares_right() {
+            return Err(Refusal::SharesDisagree);
+        }
+        if !names_right(contractor, number) {
+            return Err(Refusal::NoSuchNumber);
+        }
+        Ok(())
+    }
+
+    // Questions 18, 3, 4, 19 and 20, of an addition.
+    pub fn add_answer(&self, contractor: u32, number: u32) -> Result<(), Refusal>
+        ensures { answer_of result ≡ first_no (add_asked (run_places self.now.runs.now) (terms self.now.shares.now self.now.ceilings.now) self.now.holders.now contractor number) }
+    {
+        self.named_answer(contractor, number)?;
+        if self.runs[5 * (number as usize)] != 0 {
+            return Err(Refusal::Taken);
+        }
+        if !self.below_ceiling(contractor) {
+            return Err(Refusal::AtTheCeiling);
+        }
+        if !self.spares_others(contractor) {
+            return Err(Refusal::PromisedToOthers);
+        }
+        Ok(())
+    }
+
+    // Questions 18, 3 and 5, of a removal and of a move.
+    pub fn own_answer(&self, contractor: u32, number: u32) -> Result<(), Refusal>
+        ensures { answer_of result ≡ first_no (own_asked (run_places self.now.runs.now) (terms self.now.shares.now self.now.ceilings.now) self.now.holders.now contractor number) }
+    {
+        self.named_answer(contractor, number)?;
+        let m = number as usize;
+        if self.runs[5 * m] == 0 || u32::from(self.holders[m]) != contractor {
+            return Err(Refusal::Absent);
+        }
+        Ok(())
+    }
 }

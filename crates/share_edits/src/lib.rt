@@ -15,7 +15,7 @@ use answers::fitness;
 use geometry::Place;
 use refusals::Refusal;
 use run_edits::{add_run, move_run, remove_run};
-use share_answers::{add_answer, own_answer};
+use share_answers::Lent;
 
 // Questions 1 and 2, and 1 of the lists too.
 #[tactic(auto, unfolding(crate::specs::inner::Over::over, shares::specs::Shares::lists_right, book::specs::Questions::first_no))]
@@ -58,7 +58,13 @@ fn add_answer_over(
     fitness_for(
         blocks, runs, pairs, routes, totals, holders, shares, ceilings,
     )?;
-    add_answer(runs, holders, shares, ceilings, contractor, number)
+    let lent = Lent {
+        runs,
+        holders,
+        shares,
+        ceilings,
+    };
+    lent.add_answer(contractor, number)
 }
 
 // Every question of a removal or a move but 7.
@@ -81,7 +87,13 @@ fn own_answer_over(
     fitness_for(
         blocks, runs, pairs, routes, totals, holders, shares, ceilings,
     )?;
-    own_answer(runs, holders, shares, ceilings, contractor, number)
+    let lent = Lent {
+        runs,
+        holders,
+        shares,
+        ceilings,
+    };
+    lent.own_answer(contractor, number)
 }
 
 // A run added in a contractor's name.

@@ -5,10 +5,10 @@ use Rattle.share_edits.proofs.own_answer_over.Goals as goal
 pub returns-in_err-fitness_for : goal.returns-in_err-fitness_for
 returns-in_err-fitness_for c = passed _ _ _ c.from_residual.ensures (unfit _ _ _ _ _ c.in_err-fitness_for.ensures)
 
-pub own_answer-requires : goal.own_answer-requires
-own_answer-requires c =
+pub invariant_of-lent : goal.invariant_of-lent
+invariant_of-lent c =
     let f = c.in_ok-fitness_for.ensures in
-    (runs_121 _ _ _ _ _ _ _ _ f, holders_24 _ _ _ _ _ _ _ _ f, shares_4 _ _ _ _ _ _ _ _ f, ceilings_4 _ _ _ _ _ _ _ _ f)
+    record { long_runs = runs_121 _ _ _ _ _ _ _ _ f; long_holders = holders_24 _ _ _ _ _ _ _ _ f; long_shares = shares_4 _ _ _ _ _ _ _ _ f; long_ceilings = ceilings_4 _ _ _ _ _ _ _ _ f }
 
 pub returns : goal.returns
 returns c = search (fit, c.in_ok-fitness_for.ensures)

@@ -1,6 +1,6 @@
 use Rattle.share_answers.proofs.Loops.{bit_small, sum_none, sum_next, counted, held_is}
 use native.Mathlib.Omega.{arith}
-use Rattle.share_answers.proofs.held.Goals as goal
+use Rattle.share_answers.proofs.Lent.held.Goals as goal
 
 pub loop-holder-init : goal.loop-holder-init
 loop-holder-init c = (omega arith, sum_none _)

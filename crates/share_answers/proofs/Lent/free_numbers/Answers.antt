@@ -1,6 +1,6 @@
 use Rattle.share_answers.proofs.Loops.{bit_small, sum_none, sum_next, free_counted, free_is}
 use native.Mathlib.Omega.{arith}
-use Rattle.share_answers.proofs.free_numbers.Goals as goal
+use Rattle.share_answers.proofs.Lent.free_numbers.Goals as goal
 
 pub loop-m-init : goal.loop-m-init
 loop-m-init c = (omega arith, sum_none _)

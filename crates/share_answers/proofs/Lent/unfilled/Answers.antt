@@ -1,6 +1,6 @@
 use native.Mathlib.Omega.{arith}
 use Rattle.share_answers.proofs.Loops.{sum_none, sum_next, left_counted, unfilled_is}
-use Rattle.share_answers.proofs.unfilled.Goals as goal
+use Rattle.share_answers.proofs.Lent.unfilled.Goals as goal
 
 pub loop-c-init : goal.loop-c-init
 loop-c-init c = (omega arith, sum_none _)

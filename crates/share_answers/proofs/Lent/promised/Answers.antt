@@ -1,6 +1,6 @@
 use Rattle.share_answers.proofs.Loops.{sum_none, sum_next, sum_done}
 use native.Mathlib.Omega.{arith}
-use Rattle.share_answers.proofs.promised.Goals as goal
+use Rattle.share_answers.proofs.Lent.promised.Goals as goal
 
 pub loop-share-init : goal.loop-share-init
 loop-share-init c = (omega arith, sum_none _)
