@@ -5,11 +5,10 @@ use mathlib.Core.Logic.{inl, inr}
 use mathlib.Core.List.{List}
 use Prim.Native.Nat.{ℕ}
 use native.Mathlib.Omega.{arith}
-use lib.ListN.{length}
+use lib.ListN.{length, replicate}
 use Rattle.std.specs.Prelude.{Result, IsErr, IsErrAnd}
 use Rattle.refusals.specs.declared.Refusal.{Refusal}
 use Rattle.refusals.specs.Numbers.{number_of, answer_of}
-use Rattle.lists.specs.inner.Filled.{filled}
 use Rattle.lists.specs.inner.Tells.{Tells}
 use Rattle.lists.proofs.Telling.{told, denied}
 use Rattle.tables.specs.Tables.{Tables, tables, stored, records}
@@ -31,16 +30,16 @@ pub start_refused : (T : Tables) (t : Bool) → t ≡ lengths_right T → not t 
 unfolding first_no
 start_refused T t e n = record { answer = rw (no_of t _ e n); refused = λ z. refl; done = λ z. absurd (omega arith) }
 
-pub start_done : (T : Tables) {b r p s w : List ℕ} (t : Bool) → t ≡ lengths_right T → not t ≡ false → b ≡ filled (length T.blocks) 0 → r ≡ filled (length T.runs) 0
-    → p ≡ filled (length T.pairs) 255 → s ≡ filled (length T.routes) 0 → w ≡ filled (length T.totals) 0 → Started T 0 (tables b r p s w)
-unfolding first_no started filled
+pub start_done : (T : Tables) {b r p s w : List ℕ} (t : Bool) → t ≡ lengths_right T → not t ≡ false → b ≡ replicate (length T.blocks) 0 → r ≡ replicate (length T.runs) 0
+    → p ≡ replicate (length T.pairs) 255 → s ≡ replicate (length T.routes) 0 → w ≡ replicate (length T.totals) 0 → Started T 0 (tables b r p s w)
+unfolding first_no started
 start_done T {b} {r} {p} {s} {w} t e y eb er ep es ew =
     let z = sized_of T (yes_of t _ e y) in
-    let blocks : b ≡ filled 408 0 = eb ∙ ap (λ (n : ℕ). filled n 0) z.blocks in
-    let runs : r ≡ filled 121 0 = er ∙ ap (λ (n : ℕ). filled n 0) z.runs in
-    let pairs : p ≡ filled 28680 255 = ep ∙ ap (λ (n : ℕ). filled n 255) z.pairs in
-    let routes : s ≡ filled 4728 0 = es ∙ ap (λ (n : ℕ). filled n 0) z.routes in
-    let totals : w ≡ filled 25 0 = ew ∙ ap (λ (n : ℕ). filled n 0) z.totals in
+    let blocks : b ≡ replicate 408 0 = eb ∙ ap (λ (n : ℕ). replicate n 0) z.blocks in
+    let runs : r ≡ replicate 121 0 = er ∙ ap (λ (n : ℕ). replicate n 0) z.runs in
+    let pairs : p ≡ replicate 28680 255 = ep ∙ ap (λ (n : ℕ). replicate n 255) z.pairs in
+    let routes : s ≡ replicate 4728 0 = es ∙ ap (λ (n : ℕ). replicate n 0) z.routes in
+    let totals : w ≡ replicate 25 0 = ew ∙ ap (λ (n : ℕ). replicate n 0) z.totals in
     record {
       answer = rw (yes_of t _ e y);
       refused = λ n. absurd (n refl);

@@ -6,7 +6,6 @@ ghost use Rattle.tables.specs.Tables.{tables};
 ghost use Rattle.book.specs.Edits.{Started, Checked};
 
 use answers::{fitness, lengths_right};
-use lists::{fill8, fill16, fill32};
 use redrawing::pairs_right;
 use refusals::Refusal;
 use routing::routes_right;
@@ -26,11 +25,11 @@ pub fn start(
     if !lengths_right(blocks, runs, pairs, routes, totals) {
         return Err(Refusal::WrongLengths);
     }
-    fill16(blocks, 0);
-    fill16(runs, 0);
-    fill8(pairs, 255);
-    fill32(routes, 0);
-    fill32(totals, 0);
+    blocks.fill(0);
+    runs.fill(0);
+    pairs.fill(255);
+    routes.fill(0);
+    totals.fill(0);
     Ok(())
 }
 
