@@ -1,5 +1,5 @@
 -- Questions 1, 2, 3, 5 and 11: the number that each way through them ends in, and what a call that is answered 0 may use.
-use mathlib.Core.Path.{◌≡◌, sym, ◌∙◌}
+use mathlib.Core.Path.{◌≡◌, refl, sym, ap, ◌∙◌}
 use mathlib.Core.Logic.{◌⊎◌, inl, inr}
 use mathlib.Core.Bool.{Bool, true, false}
 use mathlib.Core.List.{List, [], ◌∷◌}
@@ -18,6 +18,10 @@ use Rattle.book.specs.Edits.{Checked}
 use Rattle.book.specs.inner.Named.{named}
 use Rattle.book.proofs.Questions.{Sized, sized_of, first_yes, first_more}
 use Rattle.drawn_routes.specs.Calls.{early, Asked}
+use Rattle.std.specs.Prelude.{Result, Ok, Err, IsErr, IsErrAnd}
+use Rattle.refusals.specs.declared.Refusal.{Refusal}
+use Rattle.refusals.specs.Numbers.{number_of as question, answer_of}
+use Rattle.refusals.proofs.Numbers.{number_of_some}
 
 -- questions 1 to 3 of the tables
 abbrev first_three : Tables → ℕ → List Question
@@ -53,10 +57,22 @@ module _ (T : Tables) (m v : ℕ) (e : v ≡ named T m) where
         let f : early true T m ≡ 0 = rw (passed.0, passed.1, passed.2, lt-ltb 0 (word T.runs (5 * m)) (omega arith)) in
         record { refused = λ n. absurd (n f); right = λ n. c.fit (rw (passed.0, passed.1)) }
 
-pub in_runs : (b r p s t : List ℕ) (m v : ℕ) → v ≡ named (tables b r p s t) m → v ≡ 0 → 5 * m < length r
-in_runs b r p s t m v e z =
-    let h = passed (tables b r p s t) m v e z in
-    omega (arith, (sized_of (tables b r p s t) h.0).runs, ltb-true m 24 h.2)
+-- the same by the calls' results
+pub unnamed : (T : Tables) (m : ℕ) {A : Type 0} (r : Result A Refusal) (e : Refusal) → IsErr r × IsErrAnd r (λ x. x ≡ e) → question e ≡ named T m → Asked true T m (answer_of r)
+unnamed T m (Ok x) e h f = absurd h.1
+unnamed T m (Err x) e h f = let q : question x ≡ named T m = ap question h.1 ∙ f in asked_early T m (question x) q (λ z. omega (arith, number_of_some x))
+
+module _ (b r p s t : List ℕ) (m : ℕ) (f : 0 ≡ named (tables b r p s t) m) where
+  pub in_runs : 5 * m < length r
+  in_runs =
+      let h = passed (tables b r p s t) m 0 f refl in
+      omega (arith, (sized_of (tables b r p s t) h.0).runs, ltb-true m 24 h.2)
+
+  pub named_5 : word r (5 * m) ≡ 0 → Asked true (tables b r p s t) m 5
+  named_5 = asked_5 (tables b r p s t) m 0 f refl
+
+  pub named_all : (u : ℕ) → (word r (5 * m) ≡ 0 → ⊥) → Checked (tables b r p s t) u → Asked true (tables b r p s t) m u
+  named_all = asked_all (tables b r p s t) m 0 f refl
 
 -- what a call that is answered 0 may use
 pub record Accepted (T : Tables) (m : ℕ) : Type 0 where

@@ -1,6 +1,14 @@
 -- The contracts can be met over any tables and lists; by `Unique` in one way only.
-use mathlib.Core.Path.{◌≡◌, refl, sym, ◌∙◌, subst}
-use mathlib.Core.Bool.{Bool, true, ◌&&◌}
+use mathlib.Core.Path.{◌≡◌, refl}
+use mathlib.Core.Bool.{Bool, true, false, ◌&&◌}
+use mathlib.Core.Logic.{◌⊎◌, inl, inr}
+use lib.Dec.{ltb}
+use Rattle.std.specs.Prelude.{Option, Result, Ok, Err}
+use Rattle.refusals.specs.declared.Refusal.{Refusal}
+use Rattle.refusals.specs.declared.Refusal.TheVariants.{WrongLengths, WrongRecords, NoSuchNumber, Absent, OutOfDate}
+use Rattle.refusals.specs.Numbers.{number_of as question, answer_of}
+use Rattle.refusals.proofs.Numbers.{number_of_some}
+use Rattle.book.specs.Drawing.{Right}
 use mathlib.Core.List.{List, [], ◌∷◌}
 use Prim.Native.Nat.{ℕ, zero, suc, ◌+◌, ◌*◌, ◌<◌}
 use native.Mathlib.Decide.{ℕ_discrete}
@@ -14,32 +22,39 @@ use Rattle.tables.specs.Tables.{Records, Tables, records, route_words, place_of}
 use Rattle.tables.proofs.Marks.{place_in_range}
 use Rattle.records.specs.Questions.{records_right}
 use Rattle.records.proofs.Fits.{records_fit}
-use Rattle.book.specs.Questions.{ask, first_no, lengths_right}
+use Rattle.book.specs.Questions.{ask, first_no, lengths_right, number_right}
 use Rattle.book.specs.Edits.{fitness}
 use Rattle.book.proofs.Questions.{first_yes}
 use Rattle.book.proofs.Outcomes.{checked_exists}
 use Rattle.curves.proofs.Exists.{HasSpot, bend_spot_exists, whole_spot_exists}
 use Rattle.pieces.specs.declared.DrawnPiece.{DrawnPiece}
-use Rattle.pieces.specs.declared.DrawnPiece.TheVariants.{Refused}
-use Rattle.pieces.specs.declared.Shown.{Shown}
-use Rattle.pieces.specs.declared.Shown.TheVariants.{Refused as no-points}
 use Rattle.pieces.specs.Pieces.{Shape, nothing, straight, bend, route_places}
-use Rattle.pieces.specs.Showing.{Row, bend_points, shown_of}
+use Rattle.pieces.specs.Showing.{Row, bend_points, is_bend}
 use Rattle.pieces.specs.inner.Steps.{Drawable, mark_place}
 use Rattle.pieces.proofs.Pieces.{count_is, place_is}
 use Rattle.pieces.proofs.Exists.{Held, all_in, piece_held, shows_exists, row_exists, origin_exists, bend_points_exist}
 use Rattle.drawn_routes.specs.Calls.{early, Asked, stored_piece, Pieced, Curved}
 use Rattle.drawn_routes.specs.Lists.{kind_of, bend_kind, piece_points, Filled, PieceFilled, BendFilled}
 use Rattle.drawn_routes.proofs.Asking.{Accepted, accepted}
-use Rattle.drawn_routes.proofs.Routes.{drawable, drawn_zero, shown_zero}
+use Rattle.drawn_routes.proofs.Routes.{drawable}
 
 both_asked : (a b : Bool) → a ≡ true → b ≡ true → first_no (ask 1 a ∷ ask 2 b ∷ []) ≡ 0
 unfolding first_no
 both_asked a b e f = rw (e, f)
 
-asked_exists : (own : Bool) (T : Tables) (m : ℕ) → (r : ℕ) × Asked own T m r
+-- a question that is answered no has a refusal
+named_first : (a b c d e : Bool) → (first_no (ask 1 a ∷ ask 1 b ∷ ask 2 c ∷ ask 3 d ∷ ask 5 e ∷ []) ≡ 0) ⊎ ((x : Refusal) × (question x ≡ first_no (ask 1 a ∷ ask 1 b ∷ ask 2 c ∷ ask 3 d ∷ ask 5 e ∷ [])))
+unfolding first_no
+named_first false b c d e = inr (WrongLengths, refl)
+named_first true false c d e = inr (WrongLengths, refl)
+named_first true true false d e = inr (WrongRecords, refl)
+named_first true true true false e = inr (NoSuchNumber, refl)
+named_first true true true true false = inr (Absent, refl)
+named_first true true true true true = inl refl
+
+asked_exists : (own : Bool) (T : Tables) (m : ℕ) → (r : Result Unit Refusal) × Asked own T m (answer_of r)
 unfolding early
-asked_exists own T m = go (ℕ_discrete (early own T m) 0)
+asked_exists own T m = go (named_first own (lengths_right T) (records_right (records T)) (number_right m) (ltb 0 (word T.runs (5 * m))))
   where
     fit : early own T m ≡ 0 → fitness T ≡ 0
     fit e =
@@ -47,9 +62,13 @@ asked_exists own T m = go (ℕ_discrete (early own T m) 0)
         let two = first_yes 1 (records_right (records T)) _ one.1 in
         both_asked (lengths_right T) (records_right (records T)) one.0 two.0
 
-    go : Dec (early own T m ≡ 0) → (r : ℕ) × Asked own T m r
-    go (no n) = (early own T m, record { refused = λ z. refl; right = λ z. absurd (n z) })
-    go (yes e) = let c = checked_exists T in (c.0, record { refused = λ n. absurd (n e); right = λ z. c.1.fit (fit e) })
+    side : early own T m ≡ 0 → {v : ℕ} → ((v ≡ 0) × Right T) ⊎ ((v ≡ 11) × (Right T → ⊥)) → (r : Result Unit Refusal) × Asked own T m (answer_of r)
+    side e (inl h) = (Ok tt, record { refused = λ n. absurd (n e); right = λ z. inl (refl, h.1) })
+    side e (inr h) = (Err OutOfDate, record { refused = λ n. absurd (n e); right = λ z. inr (refl, h.1) })
+
+    go : (early own T m ≡ 0) ⊎ ((x : Refusal) × (question x ≡ early own T m)) → (r : Result Unit Refusal) × Asked own T m (answer_of r)
+    go (inl e) = let c = checked_exists T in side e (c.1.fit (fit e))
+    go (inr x) = (Err x.0, record { refused = λ n. x.1; right = λ z. absurd (omega (arith, number_of_some x.0, x.1)) })
 
 module _ (T : Tables) (m k : ℕ) where
   abbrev shape : Shape
@@ -74,34 +93,25 @@ module _ (T : Tables) (m k : ℕ) where
       placed : (i : ℕ) → i < word ws 2 → InRange (mark_place R ws i)
       placed i h = place_in_range R (word ws (3 + i)) (records_fit R a.sized.blocks a.sized.runs a.allowed) (g.marks i h)
 
-  pub pieced_exists : (r : DrawnPiece) × Pieced T m k r
-  pieced_exists = let a = asked_exists true T m in go a.0 a.1 (ℕ_discrete a.0 0)
+  pub pieced_exists : (r : Result (Option DrawnPiece) Refusal) × Pieced T m k r
+  pieced_exists = let a = asked_exists true T m in go a.0 a.1
     where
-      go : (v : ℕ) → Asked true T m v → Dec (v ≡ 0) → (r : DrawnPiece) × Pieced T m k r
-      go v a (no n) = (Refused v, record { asked = a; drawn = λ z. absurd (n z) })
-      go v a (yes z) =
-          let r = shows_exists shape (held (accepted true T m v a z)) in
-          (r.0, record { asked = subst (λ (n : ℕ). Asked true T m n) (z ∙ sym (drawn_zero r.1)) a; drawn = λ n. r.1 })
+      go : (v : Result Unit Refusal) → Asked true T m (answer_of v) → (r : Result (Option DrawnPiece) Refusal) × Pieced T m k r
+      go (Err e) a = (Err e, record { asked = a; drawn = tt })
+      go (Ok u) a = let r = shows_exists shape (held (accepted true T m 0 a refl)) in (Ok r.0, record { asked = a; drawn = r.1 })
 
-  pub curved_exists : (old : List Float) → (r : Shown) × (new : List Float) × Curved T m k old r new
-  curved_exists old = let a = asked_exists (eqb (length old) 18) T m in go a.0 a.1 (ℕ_discrete a.0 0)
+  pub curved_exists : (old : List Float) → (r : Result Bool Refusal) × (new : List Float) × Curved T m k old r new
+  curved_exists old = let a = asked_exists (eqb (length old) 18) T m in go a.0 a.1
     where
-      go : (v : ℕ) → Asked (eqb (length old) 18) T m v → Dec (v ≡ 0) → (r : Shown) × (new : List Float) × Curved T m k old r new
-      go v a (no n) = (no-points v, old, record { asked = a; refused = λ z. refl; done = λ z. absurd (n z) })
-      go v a (yes z) =
-          let w = bend_points_exist shape (held (accepted _ T m v a z)) in (
-            shown_of shape,
-            w.0,
-            record {
-              asked = subst (λ (n : ℕ). Asked (eqb (length old) 18) T m n) (z ∙ sym (shown_zero shape)) a;
-              refused = λ n. absurd (n (shown_zero shape));
-              done = λ n. record { answer = refl; row = w.1 };
-            },
-          )
+      go : (v : Result Unit Refusal) → Asked (eqb (length old) 18) T m (answer_of v) → (r : Result Bool Refusal) × (new : List Float) × Curved T m k old r new
+      go (Err e) a = (Err e, old, record { asked = a; refused = λ z. refl; done = tt })
+      go (Ok u) a =
+          let w = bend_points_exist shape (held (accepted _ T m 0 a refl)) in
+          (Ok (is_bend shape), w.0, record { asked = a; refused = λ n. absurd (n refl); done = record { answer = refl; row = w.1 } })
 
   module _ (n : ℕ) (kind : Shape → ℕ) (row : Shape → ℕ → Point) (rows : (p : Shape) → Held p → (xs : List Float) × Row (row p) n xs) (word : List ℕ) (points : List Float) where
     filled : (r : ℕ) × (word' : List ℕ) × (points' : List Float) × Filled n kind row T m k word points r word' points'
-    filled = let a = asked_exists own T m in go a.0 a.1 (ℕ_discrete a.0 0)
+    filled = let a = asked_exists own T m in go (answer_of a.0) a.1 (ℕ_discrete (answer_of a.0) 0)
       where
         own : Bool
         own = eqb (length word) 1 && eqb (length points) (2 * n)

@@ -6,28 +6,22 @@ use Prim.Native.Nat.{ℕ, zero, suc, ◌*◌, ◌<◌}
 use native.Mathlib.Omega.{arith}
 use lib.Dec.{eqb}
 use lib.Ieee.{Float}
-use lib.ListN.{length, set}
+use lib.ListN.{length}
 use borrow.Author.Tests.{eq-eqb, ne_eqb}
 use Rattle.geometry.specs.Words.{Point}
 use Rattle.tables.specs.Tables.{Tables, records, route_words}
 use Rattle.curves.specs.declared.Spot.{Spot}
 use Rattle.pieces.specs.declared.DrawnPiece.{DrawnPiece}
-use Rattle.pieces.specs.declared.DrawnPiece.TheVariants.{Refused, Nothing, Straight, Bend}
-use Rattle.pieces.specs.declared.Shown.{Shown}
-use Rattle.pieces.specs.declared.Shown.TheVariants.{Nine, Refused as no, Nothing as none}
+use Rattle.pieces.specs.declared.DrawnPiece.TheVariants.{Straight, Bend}
 use Rattle.curves.specs.Curve.{At}
 use Rattle.pieces.specs.Pieces.{Shape, nothing, straight, bend, piece_at}
-use Rattle.pieces.specs.Showing.{Shows, shows_nothing, shows_straight, shows_bend, origin, spot_in, Row, shown_of, Bent}
+use Rattle.pieces.specs.Showing.{Shows, shows_nothing, shows_straight, shows_bend, origin, spot_in, Row}
 use Rattle.pieces.specs.inner.Steps.{Put}
-use Rattle.drawn_routes.specs.Calls.{Asked, number_of, Pieced, shown_number, Curved}
-use Rattle.drawn_routes.specs.Lists.{piece_points, kind_of, bend_kind, Filled, PieceFilled, BendFilled}
+use Rattle.drawn_routes.specs.Calls.{Asked, Pieced}
+use Rattle.std.specs.Prelude.{Option, None, Some, Ok}
+use Rattle.drawn_routes.specs.Lists.{piece_points, kind_of, Filled, PieceFilled}
 use Rattle.drawn_routes.specs.inner.Spots.{Three}
 use Rattle.drawn_routes.proofs.Asking.{asked_own, asked_lists}
-
-pub one_set : (l : List ℕ) (v : ℕ) → length l ≡ 1 → set l 0 v ≡ v ∷ []
-one_set [] v e = absurd (omega arith)
-one_set (w ∷ []) v e = refl
-one_set (w ∷ x ∷ l) v e = absurd (omega arith)
 
 pub three_put : (xs ys zs ws : List Float) (a b c : Spot) → length xs ≡ 6 → Put xs 0 a ys → Put ys 1 b zs → Put zs 2 c ws → Three a b c ws
 three_put xs ys zs ws a b c e p q r =
@@ -73,85 +67,32 @@ module _ (n : ℕ) (kind : Shape → ℕ) (row : Shape → ℕ → Point) (T : T
     into_done : (v : ℕ) (w' : List ℕ) (xs' : List Float) → Asked true T m v → v ≡ 0 → w' ≡ kind shape ∷ [] → Row (row shape) n xs' → Done 0 w' xs'
     into_done v w' xs' a z e r = record { asked = asked_own _ T m 0 both (rw z at a); refused = λ h. absurd (h refl); done = λ h. (e, r) }
 
-abbrev Answered : DrawnPiece → Type 0
-Answered (Refused v) = ⊥
-Answered Nothing = Unit
-Answered (Straight s t) = Unit
-Answered (Bend s q t) = Unit
-
-answered : {p : Shape} {r : DrawnPiece} → Shows p r → Answered r
-answered shows_nothing = tt
-answered (shows_straight x y) = tt
-answered (shows_bend x y z) = tt
-
-no_refusal : (p : Shape) (v : ℕ) → Shows p (Refused v) → ⊥
-no_refusal p v x = answered x
-
-none_row : (p : Shape) (o : Spot) (xs : List Float) → Shows p Nothing → Three o o o xs → At origin o → (kind_of p ≡ 0) × Row (piece_points p) 3 xs
+none_row : (p : Shape) (o : Spot) (xs : List Float) → Shows p None → Three o o o xs → At origin o → (kind_of p ≡ 0) × Row (piece_points p) 3 xs
 none_row p o xs shows_nothing t z = (refl, three_row (piece_points nothing) o o o xs t z z z)
 
-straight_row : (p : Shape) (s t o : Spot) (xs : List Float) → Shows p (Straight s t) → Three s t o xs → At origin o → (kind_of p ≡ 1) × Row (piece_points p) 3 xs
+straight_row : (p : Shape) (s t o : Spot) (xs : List Float) → Shows p (Some (Straight s t)) → Three s t o xs → At origin o → (kind_of p ≡ 1) × Row (piece_points p) 3 xs
 straight_row p s t o xs (shows_straight {a} {b} x y) h z = (refl, three_row (piece_points (straight a b)) s t o xs h x y z)
 
-bend_row : (p : Shape) (s q t : Spot) (xs : List Float) → Shows p (Bend s q t) → Three s q t xs → (kind_of p ≡ 2) × Row (piece_points p) 3 xs
+bend_row : (p : Shape) (s q t : Spot) (xs : List Float) → Shows p (Some (Bend s q t)) → Three s q t xs → (kind_of p ≡ 2) × Row (piece_points p) 3 xs
 bend_row p s q t xs (shows_bend {a = a} {p = b} {c = c} x y z) h = (refl, three_row (piece_points (bend a b c)) s q t xs h x y z)
+
+none_of : (d : Option DrawnPiece) → ((x : DrawnPiece) → d ≡ Some x → ⊥) → d ≡ None
+none_of None n = refl
+none_of (Some x) n = absurd (n x refl)
 
 module _ (T : Tables) (m k : ℕ) (w : List ℕ) (xs : List Float) (ew : length w ≡ 1) where
   abbrev piece : Shape
   piece = piece_at (records T) (route_words T.routes m) k
 
-  module _ (ex : length xs ≡ 6) (d : DrawnPiece) (h : Pieced T m k d) where
-    filled : (w' : List ℕ) (xs' : List Float) (n : ℕ) → number_of d ≡ 0 → w' ≡ n ∷ [] → (kind_of piece ≡ n) × Row (piece_points piece) 3 xs' → PieceFilled T m k w xs 0 w' xs'
-    filled w' xs' n z e r = into_done 3 kind_of piece_points T m k w xs ew ex (number_of d) w' xs' h.asked z (e ∙ ap (λ (i : ℕ). i ∷ []) (sym r.0)) r.1
+  module _ (ex : length xs ≡ 6) where
+    filled : (d : Option DrawnPiece) → Pieced T m k (Ok d) → (w' : List ℕ) (xs' : List Float) (n : ℕ) → w' ≡ n ∷ [] → (kind_of piece ≡ n) × Row (piece_points piece) 3 xs' → PieceFilled T m k w xs 0 w' xs'
+    filled d h w' xs' n e r = into_done 3 kind_of piece_points T m k w xs ew ex 0 w' xs' h.asked refl (e ∙ ap (λ (i : ℕ). i ∷ []) (sym r.0)) r.1
 
-    pub piece_no : (v : ℕ) → d ≡ Refused v → PieceFilled T m k w xs v w xs
-    piece_no v e =
-        into_no 3 kind_of piece_points T m k w xs ew ex v (rw e at h.asked)
-        (λ z. no_refusal piece v (rw e at (h.drawn (ap number_of e ∙ z))))
+    pub piece_none : {d : Option DrawnPiece} {o : Spot} {w' : List ℕ} {xs' : List Float} → Pieced T m k (Ok d) → ((x : DrawnPiece) → d ≡ Some x → ⊥) → w' ≡ 0 ∷ [] → Three o o o xs' → At origin o → PieceFilled T m k w xs 0 w' xs'
+    piece_none {d} {o} {w'} {xs'} h n f t z = filled d h w' xs' 0 f (none_row piece o xs' (rw (none_of d n) at h.drawn) t z)
 
-    pub piece_none : (o : Spot) (w' : List ℕ) (xs' : List Float) → d ≡ Nothing → w' ≡ 0 ∷ [] → At origin o → Three o o o xs' → PieceFilled T m k w xs 0 w' xs'
-    piece_none o w' xs' e f z t = filled w' xs' 0 (ap number_of e) f (none_row piece o xs' (rw e at (h.drawn (ap number_of e))) t z)
+    pub piece_straight : {d : DrawnPiece} {s t o : Spot} {w' : List ℕ} {xs' : List Float} → Pieced T m k (Ok (Some d)) → d ≡ Straight s t → w' ≡ 1 ∷ [] → Three s t o xs' → At origin o → PieceFilled T m k w xs 0 w' xs'
+    piece_straight {d} {s} {t} {o} {w'} {xs'} h e f r z = filled (Some d) h w' xs' 1 f (straight_row piece s t o xs' (rw e at h.drawn) r z)
 
-    pub piece_straight : (s t o : Spot) (w' : List ℕ) (xs' : List Float) → d ≡ Straight s t → w' ≡ 1 ∷ [] → At origin o → Three s t o xs' → PieceFilled T m k w xs 0 w' xs'
-    piece_straight s t o w' xs' e f z r = filled w' xs' 1 (ap number_of e) f (straight_row piece s t o xs' (rw e at (h.drawn (ap number_of e))) r z)
-
-    pub piece_bend : (s q t : Spot) (w' : List ℕ) (xs' : List Float) → d ≡ Bend s q t → w' ≡ 2 ∷ [] → Three s q t xs' → PieceFilled T m k w xs 0 w' xs'
-    piece_bend s q t w' xs' e f r = filled w' xs' 2 (ap number_of e) f (bend_row piece s q t xs' (rw e at (h.drawn (ap number_of e))) r)
-
-  module _ (d : Shown) (ys : List Float) (h : Curved T m k xs d ys) where
-    listed : (v : ℕ) → shown_number d ≡ v → Asked (eqb (length w) 1 && eqb (length xs) 18) T m v
-    listed v e = rw (eq-eqb _ _ ew) (rw e at h.asked)
-
-    pub bend_no : (v : ℕ) → d ≡ no v → BendFilled T m k w xs v w ys
-    bend_no v e =
-        record {
-          asked = listed v (ap shown_number e);
-          refused = λ n. (refl, h.refused (λ z. n (sym (ap shown_number e) ∙ z)));
-          done = λ z. absurd (never piece v (sym e ∙ (h.done (ap shown_number e ∙ z)).answer));
-        }
-      where
-        never : (p : Shape) (v : ℕ) → no v ≡ shown_of p → ⊥
-        never nothing v q = let z : ◌≡◌ {A = ℕ} 0 1 = cc in omega arith
-        never (straight a b) v q = let z : ◌≡◌ {A = ℕ} 0 1 = cc in omega arith
-        never (bend a p c) v q = let z : ◌≡◌ {A = ℕ} 0 1 = cc in omega arith
-
-    shown : (n : ℕ) (w' : List ℕ) → shown_number d ≡ 0 → w' ≡ n ∷ [] → (Bent piece d ys → bend_kind piece ≡ n) → BendFilled T m k w xs 0 w' ys
-    shown n w' z e f =
-        let b = h.done z in
-        record { asked = listed 0 z; refused = λ r. absurd (r refl); done = λ r. (e ∙ ap (λ (i : ℕ). i ∷ []) (sym (f b)), b.row) }
-
-    kind_none : (p : Shape) → d ≡ none → d ≡ shown_of p → bend_kind p ≡ 0
-    kind_none nothing e f = refl
-    kind_none (straight a b) e f = refl
-    kind_none (bend a p c) e f = let z : ◌≡◌ {A = ℕ} 0 1 = cc in absurd (omega arith)
-
-    kind_nine : (p : Shape) → d ≡ Nine → d ≡ shown_of p → bend_kind p ≡ 2
-    kind_nine nothing e f = let z : ◌≡◌ {A = ℕ} 0 1 = cc in absurd (omega arith)
-    kind_nine (straight a b) e f = let z : ◌≡◌ {A = ℕ} 0 1 = cc in absurd (omega arith)
-    kind_nine (bend a p c) e f = refl
-
-    pub bend_none : (w' : List ℕ) → d ≡ none → w' ≡ 0 ∷ [] → BendFilled T m k w xs 0 w' ys
-    bend_none w' e f = shown 0 w' (ap shown_number e) f (λ b. kind_none piece e b.answer)
-
-    pub bend_nine : (w' : List ℕ) → d ≡ Nine → w' ≡ 2 ∷ [] → BendFilled T m k w xs 0 w' ys
-    bend_nine w' e f = shown 2 w' (ap shown_number e) f (λ b. kind_nine piece e b.answer)
+    pub piece_bend : {d : DrawnPiece} {s q t : Spot} {w' : List ℕ} {xs' : List Float} → Pieced T m k (Ok (Some d)) → d ≡ Bend s q t → w' ≡ 2 ∷ [] → Three s q t xs' → PieceFilled T m k w xs 0 w' xs'
+    piece_bend {d} {s} {q} {t} {w'} {xs'} h e f r = filled (Some d) h w' xs' 2 f (bend_row piece s q t xs' (rw e at h.drawn) r)

@@ -2,7 +2,7 @@
 -- begin and end where it does.
 use mathlib.Core.Path.{◌≡◌, refl, sym, ap, ◌∙◌, subst}
 use mathlib.Core.Logic.{◌⊎◌, inl, inr}
-use mathlib.Core.Bool.{true}
+use mathlib.Core.Bool.{Bool, true, true≢false}
 use mathlib.Core.List.{List, [], map}
 use Prim.Native.Nat.{ℕ, suc, ◌+◌, ◌*◌, ◌%◌, ◌<◌, ◌≤◌}
 use native.Mathlib.Omega.{arith}
@@ -22,18 +22,19 @@ use Rattle.curves.specs.Curve.{whole, At}
 use Rattle.curves.specs.declared.Spot.{Spot}
 use Rattle.curves.proofs.Unique.{at_unique}
 use Rattle.pieces.specs.declared.DrawnPiece.{DrawnPiece}
-use Rattle.pieces.specs.declared.DrawnPiece.TheVariants.{Nothing, Straight, Bend}
-use Rattle.pieces.specs.declared.Shown.{Shown}
-use Rattle.pieces.specs.declared.Shown.TheVariants.{Nine}
+use Rattle.pieces.specs.declared.DrawnPiece.TheVariants.{Straight, Bend}
+use Rattle.std.specs.Prelude.{Option, None, Some, Result, Ok}
+use Rattle.refusals.specs.declared.Refusal.{Refusal}
+use Rattle.refusals.specs.Numbers.{answer_of}
 use Rattle.pieces.specs.Pieces.{Shape, nothing, straight, bend, pieces, route_places, piece_at}
-use Rattle.pieces.specs.Showing.{Shows, shows_nothing, shows_straight, shows_bend, Spans, straight_spans, bend_spans, spot_in, Row, bend_points, shown_of}
+use Rattle.pieces.specs.Showing.{Shows, shows_nothing, shows_straight, shows_bend, Spans, spot_in, Row, bend_points, is_bend as is_bend_shape}
 use Rattle.pieces.specs.inner.Steps.{Drawable}
 use Rattle.pieces.proofs.Pieces.{is_nothing, is_straight, is_bend}
 use Rattle.pieces.proofs.Joins.{There, start_of, last_of, pieces_joined, pieces_begin, pieces_end, spans_there, spans_start, spans_finish}
-use Rattle.drawn_routes.specs.Calls.{early, stored_piece, number_of, Pieced, shown_number, Curved}
+use Rattle.drawn_routes.specs.Calls.{early, stored_piece, Pieced, Curved}
 use Rattle.drawn_routes.proofs.Asking.{Accepted, accepted, asked_own}
 use Rattle.drawn_routes.proofs.Routes.{drawable}
-use Rattle.drawn_routes.proofs.Unique.{asked_unique}
+use Rattle.drawn_routes.proofs.Unique.{asked_unique, ok_of}
 
 -- ---- the places of a chain's marks
 chain_first : {G : Graph} {end v : ℕ} {us : List ℕ} (f : ℕ → Point) (d : Point) → Chain G end v us → get_or (map f us) 0 d ≡ f v
@@ -77,31 +78,27 @@ module _ (R : Records) (Clear : ℕ → ℕ → Type 0) (m : ℕ) where
   no_marks (no_way e n) z = refl
   no_marks (found e us r) z = absurd (omega arith)
 
-none_there : {p : Shape} → Shows p Nothing → There p → ⊥
+none_there : {p : Shape} → Shows p None → There p → ⊥
 none_there shows_nothing h = h
 
-spans_zero : {r : DrawnPiece} {s t : Spot} → Spans r s t → number_of r ≡ 0
-spans_zero straight_spans = refl
-spans_zero bend_spans = refl
-
-nine_between : {p : Shape} {s q t : Spot} {ys : List Float} → Shows p (Bend s q t) → Row (bend_points p) 9 ys → (spot_in ys 0 ≡ s) × (spot_in ys 8 ≡ t)
+nine_between : {p : Shape} {s q t : Spot} {ys : List Float} → Shows p (Some (Bend s q t)) → Row (bend_points p) 9 ys → (spot_in ys 0 ≡ s) × (spot_in ys 8 ≡ t)
 nine_between (shows_bend x y z) r = (at_unique _ _ _ (r.each 0 (omega arith)) x, at_unique _ _ _ (r.each 8 (omega arith)) z)
 
-is_nine : {p : Shape} {s q t : Spot} → Shows p (Bend s q t) → shown_of p ≡ Nine
+is_nine : {p : Shape} {s q t : Spot} → Shows p (Some (Bend s q t)) → is_bend_shape p ≡ true
 is_nine (shows_bend x y z) = refl
 
-show_nothing : {r : DrawnPiece} → Shows nothing r → r ≡ Nothing
+show_nothing : {r : Option DrawnPiece} → Shows nothing r → r ≡ None
 show_nothing shows_nothing = refl
 
-show_straight : {a b : Point} {r : DrawnPiece} → Shows (straight a b) r → (s : Spot) × (t : Spot) × (r ≡ Straight s t)
+show_straight : {a b : Point} {r : Option DrawnPiece} → Shows (straight a b) r → (s : Spot) × (t : Spot) × (r ≡ Some (Straight s t))
 show_straight (shows_straight {s = s} {t = t} x y) = (s, t, refl)
 
-show_bend : {a p c : Point} {r : DrawnPiece} → Shows (bend a p c) r → (s : Spot) × (q : Spot) × (t : Spot) × (r ≡ Bend s q t)
+show_bend : {a p c : Point} {r : Option DrawnPiece} → Shows (bend a p c) r → (s : Spot) × (q : Spot) × (t : Spot) × (r ≡ Some (Bend s q t))
 show_bend (shows_bend {s = s} {q = q} {t = t} x y z) = (s, q, t, refl)
 
-is_curved : {p : Shape} {r : DrawnPiece} → Shows p r → Nine ≡ shown_of p → (s : Spot) × (q : Spot) × (t : Spot) × (r ≡ Bend s q t)
-is_curved shows_nothing e = let z : ◌≡◌ {A = ℕ} 0 1 = cc in absurd (omega arith)
-is_curved (shows_straight x y) e = let z : ◌≡◌ {A = ℕ} 0 1 = cc in absurd (omega arith)
+is_curved : {p : Shape} {r : Option DrawnPiece} → Shows p r → true ≡ is_bend_shape p → (s : Spot) × (q : Spot) × (t : Spot) × (r ≡ Some (Bend s q t))
+is_curved shows_nothing e = absurd (true≢false e)
+is_curved (shows_straight x y) e = absurd (true≢false e)
 is_curved (shows_bend x y z) e = show_bend (shows_bend x y z)
 
 module _ (T : Tables) (m : ℕ) where
@@ -114,75 +111,74 @@ module _ (T : Tables) (m : ℕ) where
   abbrev along : List Point
   along = route_places R ws
 
-  allowed : {k : ℕ} {r : DrawnPiece} → Pieced T m k r → number_of r ≡ 0 → Accepted T m
+  allowed : {k : ℕ} {r : Result (Option DrawnPiece) Refusal} → Pieced T m k r → answer_of r ≡ 0 → Accepted T m
   allowed h z = accepted true T m _ h.asked z
 
   -- each piece starts where the one before finishes, float for float
-  pub pieces_join : {k : ℕ} {r r' : DrawnPiece} {s t s' t' : Spot} → Pieced T m k r → Pieced T m (suc k) r' → Spans r s t → Spans r' s' t' → t ≡ s'
+  pub pieces_join : {k : ℕ} {r r' : DrawnPiece} {s t s' t' : Spot} → Pieced T m k (Ok (Some r)) → Pieced T m (suc k) (Ok (Some r')) → Spans r s t → Spans r' s' t' → t ≡ s'
   pieces_join {k = k} {s' = s'} h h' x x' =
-      let d = h.drawn (spans_zero x) in
-      let d' = h'.drawn (spans_zero x') in
-      at_unique _ _ _ (spans_finish d x) (subst (λ (p : Point). At p s') (sym (pieces_joined along k (spans_there d' x'))) (spans_start d' x'))
+      at_unique _ _ _ (spans_finish h.drawn x) (subst (λ (p : Point). At p s') (sym (pieces_joined along k (spans_there h'.drawn x'))) (spans_start h'.drawn x'))
 
-  module _ {k : ℕ} {r : DrawnPiece} {s t : Spot} (h : Pieced T m k r) (x : Spans r s t) where
+  module _ {k : ℕ} {r : DrawnPiece} {s t : Spot} (h : Pieced T m k (Ok (Some r))) (x : Spans r s t) where
     there : There (stored_piece T m k)
-    there = spans_there (h.drawn (spans_zero x)) x
+    there = spans_there h.drawn x
 
     -- the first piece starts at the first end
     pub first_starts : k ≡ 0 → At (whole (place_of R (first_end m))) s
     first_starts z =
-        let a = allowed h (spans_zero x) in
+        let a = allowed h refl in
         let d = place_of R 0 in
         subst (λ (p : Point). At p s) (ap (λ (i : ℕ). start_of (stored_piece T m i)) z ∙ pieces_begin d along (rw z at there) ∙ ap whole (first_place R _ m ws k there d (a.right.routes m a.below)))
-        (spans_start (h.drawn (spans_zero x)) x)
+        (spans_start h.drawn x)
 
     -- the last piece, after which there is none, finishes at the second
-    pub last_finishes : Pieced T m (suc k) Nothing → At (whole (place_of R (second_end m))) t
+    pub last_finishes : Pieced T m (suc k) (Ok None) → At (whole (place_of R (second_end m))) t
     last_finishes n =
-        let a = allowed h (spans_zero x) in
+        let a = allowed h refl in
         let d = place_of R 0 in
-        subst (λ (p : Point). At p t) (pieces_end d along k there (none_there (n.drawn refl)) ∙ ap whole (last_place R _ m ws k there d (a.right.routes m a.below)))
-        (spans_finish (h.drawn (spans_zero x)) x)
+        subst (λ (p : Point). At p t) (pieces_end d along k there (none_there n.drawn) ∙ ap whole (last_place R _ m ws k there d (a.right.routes m a.below)))
+        (spans_finish h.drawn x)
 
   -- a bend's nine points begin and end at its start and finish
-  pub bend_between : {k : ℕ} {s q t : Spot} {xs ys : List Float} → Pieced T m k (Bend s q t) → Curved T m k xs Nine ys → (spot_in ys 0 ≡ s) × (spot_in ys 8 ≡ t)
-  bend_between h c = nine_between (h.drawn refl) (c.done refl).row
+  pub bend_between : {k : ℕ} {s q t : Spot} {xs ys : List Float} → Pieced T m k (Ok (Some (Bend s q t))) → Curved T m k xs (Ok true) ys → (spot_in ys 0 ≡ s) × (spot_in ys 8 ≡ t)
+  bend_between h c = nine_between h.drawn c.done.row
 
   -- and both calls tell the same pieces to be bends
-  pub bend_shown : {k : ℕ} {s q t : Spot} {v : Shown} {xs ys : List Float} → length xs ≡ 18 → Pieced T m k (Bend s q t) → Curved T m k xs v ys → v ≡ Nine
-  bend_shown {v = v} {xs = xs} e h c = (c.done z).answer ∙ is_nine (h.drawn refl)
+  pub bend_shown : {k : ℕ} {s q t : Spot} {v : Result Bool Refusal} {xs ys : List Float} → length xs ≡ 18 → Pieced T m k (Ok (Some (Bend s q t))) → Curved T m k xs v ys → v ≡ Ok true
+  bend_shown {v = v} {xs = xs} e h c = go (ok_of v (asked_unique (eqb (length xs) 18) T m _ 0 c.asked (asked_own _ T m 0 (eq-eqb (length xs) 18 e) h.asked)))
     where
-      z : shown_number v ≡ 0
-      z = asked_unique (eqb (length xs) 18) T m _ 0 c.asked (asked_own _ T m 0 (eq-eqb (length xs) 18 e) h.asked)
+      go : (b : Bool) × (v ≡ Ok b) → v ≡ Ok true
+      go b = b.1 ∙ ap Ok ((rw b.1 at c).done.answer ∙ is_nine h.drawn)
 
-  pub only_bends : {k : ℕ} {r : DrawnPiece} {xs ys : List Float} → length xs ≡ 18 → Pieced T m k r → Curved T m k xs Nine ys → (s : Spot) × (q : Spot) × (t : Spot) × (r ≡ Bend s q t)
-  only_bends {k = k} {r = r} {xs = xs} e h c = is_curved (h.drawn z) (c.done refl).answer
+  pub only_bends : {k : ℕ} {r : Result (Option DrawnPiece) Refusal} {xs ys : List Float} → length xs ≡ 18 → Pieced T m k r → Curved T m k xs (Ok true) ys
+      → (s : Spot) × (q : Spot) × (t : Spot) × (r ≡ Ok (Some (Bend s q t)))
+  only_bends {k = k} {r = r} {xs = xs} e h c = go (ok_of r (asked_unique (eqb (length xs) 18) T m _ 0 (asked_own _ T m _ (eq-eqb (length xs) 18 e) h.asked) c.asked))
     where
-      z : number_of r ≡ 0
-      z = asked_unique (eqb (length xs) 18) T m _ 0 (asked_own _ T m _ (eq-eqb (length xs) 18 e) h.asked) c.asked
+      go : (d : Option DrawnPiece) × (r ≡ Ok d) → (s : Spot) × (q : Spot) × (t : Spot) × (r ≡ Ok (Some (Bend s q t)))
+      go d = let b = is_curved (rw d.1 at h).drawn c.done.answer in (b.0, b.1, b.2, d.1 ∙ ap Ok b.3)
 
   -- pieces are numbered from 0, straight and bend in turn: a route of n marks has 2 n - 3
-  module _ {k : ℕ} {r : DrawnPiece} (h : Pieced T m k r) (z : number_of r ≡ 0) where
+  module _ {k : ℕ} {r : Option DrawnPiece} (h : Pieced T m k (Ok r)) where
     drawing : Drawable R ws
-    drawing = let a = allowed h z in drawable R _ m a.below a.sized.blocks a.sized.runs (a.right.routes m a.below)
+    drawing = let a = allowed h refl in drawable R _ m a.below a.sized.blocks a.sized.runs (a.right.routes m a.below)
 
-    pub none_past : 2 * word ws 2 ≤ k + 3 → r ≡ Nothing
-    none_past l = show_nothing (subst (λ (p : Shape). Shows p r) (is_nothing R ws drawing k l) (h.drawn z))
+    pub none_past : 2 * word ws 2 ≤ k + 3 → r ≡ None
+    none_past l = show_nothing (subst (λ (p : Shape). Shows p r) (is_nothing R ws drawing k l) h.drawn)
 
-    pub even_straight : k + 3 < 2 * word ws 2 → k % 2 ≡ 0 → (s : Spot) × (t : Spot) × (r ≡ Straight s t)
-    even_straight l e = show_straight (subst (λ (p : Shape). Shows p r) (is_straight R ws drawing k l e) (h.drawn z))
+    pub even_straight : k + 3 < 2 * word ws 2 → k % 2 ≡ 0 → (s : Spot) × (t : Spot) × (r ≡ Some (Straight s t))
+    even_straight l e = show_straight (subst (λ (p : Shape). Shows p r) (is_straight R ws drawing k l e) h.drawn)
 
-    pub odd_bend : k + 3 < 2 * word ws 2 → (k % 2 ≡ 0 → ⊥) → (s : Spot) × (q : Spot) × (t : Spot) × (r ≡ Bend s q t)
-    odd_bend l e = show_bend (subst (λ (p : Shape). Shows p r) (is_bend R ws drawing k l e) (h.drawn z))
+    pub odd_bend : k + 3 < 2 * word ws 2 → (k % 2 ≡ 0 → ⊥) → (s : Spot) × (q : Spot) × (t : Spot) × (r ≡ Some (Bend s q t))
+    odd_bend l e = show_bend (subst (λ (p : Shape). Shows p r) (is_bend R ws drawing k l e) h.drawn)
 
     -- a run with no way has none
-    pub no_way_none : word ws 0 ≡ 2 → r ≡ Nothing
-    no_way_none e = let a = allowed h z in none_past (rw (no_marks R _ m (a.right.routes m a.below) e) (omega arith))
+    pub no_way_none : word ws 0 ≡ 2 → r ≡ None
+    no_way_none e = let a = allowed h refl in none_past (rw (no_marks R _ m (a.right.routes m a.below) e) (omega arith))
 
   -- on right tables every run that is present is drawn
-  pub right_drawn : {k : ℕ} {r : DrawnPiece} → early true T m ≡ 0 → Right T → Pieced T m k r → number_of r ≡ 0
+  pub right_drawn : {k : ℕ} {r : Result (Option DrawnPiece) Refusal} → early true T m ≡ 0 → Right T → Pieced T m k r → answer_of r ≡ 0
   right_drawn {r = r} e t h = go (h.asked.right e)
     where
-      go : ((number_of r ≡ 0) × Right T) ⊎ ((number_of r ≡ 11) × (Right T → ⊥)) → number_of r ≡ 0
+      go : ((answer_of r ≡ 0) × Right T) ⊎ ((answer_of r ≡ 11) × (Right T → ⊥)) → answer_of r ≡ 0
       go (inl a) = a.0
       go (inr a) = absurd (a.1 t)

@@ -1,6 +1,6 @@
 -- A right route record can be drawn, and what `piece` answers of it.
-use mathlib.Core.Path.{◌≡◌, refl, sym, ap, ◌∙◌, subst}
-use mathlib.Core.Bool.{true}
+use mathlib.Core.Path.{◌≡◌, refl}
+use mathlib.Core.Bool.{Bool, true}
 use mathlib.Core.List.{List}
 use Prim.Native.Nat.{ℕ, zero, suc, ◌+◌, ◌*◌, ◌-◌, ◌<◌, ◌≤◌}
 use native.Mathlib.Omega.{arith}
@@ -16,13 +16,12 @@ use Rattle.routing.proofs.Fits.{route_short, record_length}
 use Rattle.search.specs.Network.{graph}
 use Rattle.search.proofs.Network.{corner_below}
 use Rattle.pieces.specs.declared.DrawnPiece.{DrawnPiece}
-use Rattle.pieces.specs.declared.DrawnPiece.TheVariants.{Refused}
-use Rattle.pieces.specs.Pieces.{Shape, nothing, straight, bend, piece_at}
-use Rattle.pieces.specs.Showing.{Shows, shows_nothing, shows_straight, shows_bend, shown_of, Bent}
+use Rattle.pieces.specs.Pieces.{piece_at}
+use Rattle.pieces.specs.Showing.{Shows, Bent}
 use Rattle.pieces.specs.inner.Steps.{Drawable}
-use Rattle.drawn_routes.specs.Calls.{Asked, number_of, Pieced, shown_number, Curved}
-use Rattle.pieces.specs.declared.Shown.{Shown}
-use Rattle.pieces.specs.declared.Shown.TheVariants.{Refused as no}
+use Rattle.drawn_routes.specs.Calls.{Asked, Pieced, Curved}
+use Rattle.std.specs.Prelude.{Option, Ok, Err}
+use Rattle.refusals.specs.declared.Refusal.TheVariants.{WrongLengths}
 use Rattle.drawn_routes.proofs.Asking.{accepted, asked_own, asked_lists}
 
 chain_below : (R : Records) (Clear : ℕ → ℕ → Type 0) (end : ℕ) {v : ℕ} {us : List ℕ} → Chain (graph R Clear) end v us → v < 240 → end < 240
@@ -49,51 +48,22 @@ module _ (R : Records) (Clear : ℕ → ℕ → Type 0) (m : ℕ) (l : m < 24) (
   pub drawable : {ws : List ℕ} → RouteIs R Clear m ws → Drawable R ws
   drawable r = record { blocks = eb; runs = er; sized = record_length R Clear m r; count = counted r; marks = marked r }
 
-pub drawn_zero : {p : Shape} {r : DrawnPiece} → Shows p r → number_of r ≡ 0
-drawn_zero shows_nothing = refl
-drawn_zero (shows_straight x y) = refl
-drawn_zero (shows_bend x y z) = refl
+pub curved_lists : (T : Tables) (m k : ℕ) (xs : List Float) → (length xs ≡ 18 → ⊥) → Curved T m k xs (Err WrongLengths) xs
+curved_lists T m k xs n = record { asked = asked_lists _ T m (ne_eqb _ _ n); refused = λ z. refl; done = tt }
 
-pub shown_zero : (p : Shape) → shown_number (shown_of p) ≡ 0
-shown_zero nothing = refl
-shown_zero (straight a b) = refl
-shown_zero (bend a p c) = refl
-
-bent_zero : (p : Shape) (d : Shown) (xs : List Float) → Bent p d xs → shown_number d ≡ 0
-bent_zero p d xs x = ap shown_number x.answer ∙ shown_zero p
-
-pub curved_lists : (T : Tables) (m k : ℕ) (xs : List Float) → (length xs ≡ 18 → ⊥) → Curved T m k xs (no 1) xs
-curved_lists T m k xs n = record { asked = asked_lists _ T m (ne_eqb _ _ n); refused = λ z. refl; done = λ z. absurd (omega arith) }
-
-module _ (b r p s t : List ℕ) (m v : ℕ) (a : Asked true (tables b r p s t) m v) where
-  pub curved_refused : (k : ℕ) (xs : List Float) → length xs ≡ 18 → (v ≡ 0 → ⊥) → Curved (tables b r p s t) m k xs (no v) xs
-  curved_refused k xs e n = record { asked = asked_own _ _ m v (eq-eqb _ _ e) a; refused = λ z. refl; done = λ z. absurd (n z) }
-
-  pub piece_refused : (k : ℕ) → (v ≡ 0 → ⊥) → Pieced (tables b r p s t) m k (Refused v)
-  piece_refused k n = record { asked = a; drawn = λ z. absurd (n z) }
-
-  module _ (z : v ≡ 0) where
+module _ (b r p s t : List ℕ) (m : ℕ) where
+  module _ (a : Asked true (tables b r p s t) m 0) where
     pub part_end : 197 * m + 197 ≤ length s
-    part_end = let g = accepted true _ m v a z in omega (arith, g.below, g.sized.routes)
+    part_end = let g = accepted true _ m 0 a refl in omega (arith, g.below, g.sized.routes)
 
     pub part_drawable : Drawable (stored b r) (take (197 * m + 197 - 197 * m) (drop (197 * m) s))
     part_drawable =
-        let g = accepted true _ m v a z in
+        let g = accepted true _ m 0 a refl in
         rw (lent_part s m) (drawable (stored b r) _ m g.below g.sized.blocks g.sized.runs (g.right.routes m g.below))
 
-    pub piece_drawn : (k : ℕ) (d : DrawnPiece) → Shows (piece_at (stored b r) (take (197 * m + 197 - 197 * m) (drop (197 * m) s)) k) d → Pieced (tables b r p s t) m k d
-    piece_drawn k d x =
-        record {
-          asked = subst (λ (n : ℕ). Asked true (tables b r p s t) m n) (z ∙ sym (drawn_zero x)) a;
-          drawn = λ n. rw (lent_part s m) at x;
-        }
+    pub piece_drawn : (k : ℕ) (d : Option DrawnPiece) → Shows (piece_at (stored b r) (take (197 * m + 197 - 197 * m) (drop (197 * m) s)) k) d → Pieced (tables b r p s t) m k (Ok d)
+    piece_drawn k d x = record { asked = a; drawn = rw (lent_part s m) at x }
 
-    pub curved_done : (k : ℕ) (d : Shown) (xs ys : List Float) → length xs ≡ 18 → Bent (piece_at (stored b r) (take (197 * m + 197 - 197 * m) (drop (197 * m) s)) k) d ys
-        → Curved (tables b r p s t) m k xs d ys
-    curved_done k d xs ys e x =
-        let f = bent_zero _ d ys x in
-        record {
-          asked = asked_own _ _ m _ (eq-eqb _ _ e) (subst (λ (n : ℕ). Asked true (tables b r p s t) m n) (z ∙ sym f) a);
-          refused = λ n. absurd (n f);
-          done = λ n. rw (lent_part s m) at x;
-        }
+    pub curved_done : (k : ℕ) (d : Bool) (xs ys : List Float) → length xs ≡ 18 → Bent (piece_at (stored b r) (take (197 * m + 197 - 197 * m) (drop (197 * m) s)) k) d ys
+        → Curved (tables b r p s t) m k xs (Ok d) ys
+    curved_done k d xs ys e x = record { asked = asked_own _ _ m 0 (eq-eqb _ _ e) a; refused = λ n. absurd (n refl); done = rw (lent_part s m) at x }

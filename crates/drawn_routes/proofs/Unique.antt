@@ -3,7 +3,7 @@ use mathlib.Core.Path.{◌≡◌, refl, sym, ap, ◌∙◌}
 use mathlib.Core.Bool.{Bool}
 use mathlib.Core.Logic.{◌⊎◌, inl, inr}
 use mathlib.Core.List.{List}
-use Prim.Native.Nat.{ℕ, ◌+◌, ◌*◌, ◌-◌, ◌/◌, ◌%◌, ◌<◌}
+use Prim.Native.Nat.{ℕ, ◌+◌, ◌*◌, ◌/◌, ◌%◌, ◌<◌}
 use native.Mathlib.Decide.{ℕ_discrete}
 use native.Mathlib.Omega.{arith}
 use lib.Ieee.{Float, nan}
@@ -14,19 +14,21 @@ use Rattle.tables.specs.Tables.{Tables}
 use Rattle.curves.specs.declared.Spot.{Spot}
 use Rattle.pieces.specs.Pieces.{Shape}
 use Rattle.pieces.specs.Showing.{Shows, shows_nothing, shows_straight, shows_bend, spot_in, Row}
-use Rattle.drawn_routes.specs.Calls.{early, Asked, number_of, Pieced, shown_number, Curved}
+use Rattle.drawn_routes.specs.Calls.{early, Asked, Pieced, Curved}
+use Rattle.std.specs.Prelude.{Option, Some, Result, Ok, Err}
+use Rattle.refusals.specs.declared.Refusal.{Refusal}
+use Rattle.refusals.specs.Numbers.{answer_of}
+use Rattle.refusals.proofs.Numbers.{number_of_some, number_of_one}
 use Rattle.drawn_routes.specs.Lists.{Filled}
 use Rattle.book.specs.Drawing.{Right}
 use Rattle.curves.proofs.Unique.{at_unique}
 use Rattle.pieces.specs.declared.DrawnPiece.{DrawnPiece}
-use Rattle.pieces.specs.declared.DrawnPiece.TheVariants.{Refused, Nothing, Straight, Bend}
-use Rattle.pieces.specs.declared.Shown.{Shown}
-use Rattle.pieces.specs.declared.Shown.TheVariants.{Nine, Refused as no-points, Nothing as no-bend}
+use Rattle.pieces.specs.declared.DrawnPiece.TheVariants.{Straight, Bend}
 
-drawn_unique : {p : Shape} (r r' : DrawnPiece) → Shows p r → Shows p r' → r ≡ r'
+drawn_unique : {p : Shape} (r r' : Option DrawnPiece) → Shows p r → Shows p r' → r ≡ r'
 drawn_unique r r' shows_nothing shows_nothing = refl
-drawn_unique r r' (shows_straight x y) (shows_straight x' y') = λ i. Straight (at_unique _ _ _ x x' i) (at_unique _ _ _ y y' i)
-drawn_unique r r' (shows_bend x y z) (shows_bend x' y' z') = λ i. Bend (at_unique _ _ _ x x' i) (at_unique _ _ _ y y' i) (at_unique _ _ _ z z' i)
+drawn_unique r r' (shows_straight x y) (shows_straight x' y') = λ i. Some (Straight (at_unique _ _ _ x x' i) (at_unique _ _ _ y y' i))
+drawn_unique r r' (shows_bend x y z) (shows_bend x' y' z') = λ i. Some (Bend (at_unique _ _ _ x x' i) (at_unique _ _ _ y y' i) (at_unique _ _ _ z z' i))
 
 pub asked_unique : (own : Bool) (T : Tables) (m v v' : ℕ) → Asked own T m v → Asked own T m v' → v ≡ v'
 asked_unique own T m v v' a b = go (ℕ_discrete (early own T m) 0)
@@ -41,21 +43,29 @@ asked_unique own T m v v' a b = go (ℕ_discrete (early own T m) 0)
     go (yes z) = pick (a.right z) (b.right z)
     go (no z) = a.refused z ∙ sym (b.refused z)
 
-refusal : (r : DrawnPiece) → (number_of r ≡ 0 → ⊥) → r ≡ Refused (number_of r)
-refusal (Refused v) n = refl
-refusal Nothing n = absurd (n refl)
-refusal (Straight s t) n = absurd (n refl)
-refusal (Bend s q t) n = absurd (n refl)
+-- results of one number are both refused, by the same refusal, or both not
+module _ {A : Type 0} where
+  pub ok_of : (r : Result A Refusal) → answer_of r ≡ 0 → (x : A) × (r ≡ Ok x)
+  ok_of (Ok x) z = (x, refl)
+  ok_of (Err e) z = absurd (omega (arith, number_of_some e))
 
-pub pieced_unique : (T : Tables) (m k : ℕ) (r r' : DrawnPiece) → Pieced T m k r → Pieced T m k r' → r ≡ r'
-pieced_unique T m k r r' a b = go (ℕ_discrete (number_of r) 0)
+  pub same_refusal : (r r' : Result A Refusal) → answer_of r ≡ answer_of r' → (answer_of r ≡ 0 → ⊥) → r ≡ r'
+  same_refusal (Ok x) r' q n = absurd (n refl)
+  same_refusal (Err e) (Ok y) q n = absurd (n q)
+  same_refusal (Err e) (Err f) q n = ap Err (number_of_one e f q)
+
+pub pieced_unique : (T : Tables) (m k : ℕ) (r r' : Result (Option DrawnPiece) Refusal) → Pieced T m k r → Pieced T m k r' → r ≡ r'
+pieced_unique T m k r r' a b = go (ℕ_discrete (answer_of r) 0)
   where
-    same : number_of r ≡ number_of r'
+    same : answer_of r ≡ answer_of r'
     same = asked_unique _ T m _ _ a.asked b.asked
 
-    go : Dec (number_of r ≡ 0) → r ≡ r'
-    go (yes z) = drawn_unique r r' (a.drawn z) (b.drawn (sym same ∙ z))
-    go (no z) = refusal r z ∙ ap Refused same ∙ sym (refusal r' (λ e. z (same ∙ e)))
+    shown : (x : Option DrawnPiece) × (r ≡ Ok x) → (y : Option DrawnPiece) × (r' ≡ Ok y) → r ≡ r'
+    shown x y = x.1 ∙ ap Ok (drawn_unique x.0 y.0 (rw x.1 at a).drawn (rw y.1 at b).drawn) ∙ sym y.1
+
+    go : Dec (answer_of r ≡ 0) → r ≡ r'
+    go (yes z) = shown (ok_of r z) (ok_of r' (sym same ∙ z))
+    go (no z) = same_refusal r r' same z
 
 row_unique : (f : ℕ → Point) (n : ℕ) (xs ys : List Float) → Row f n xs → Row f n ys → xs ≡ ys
 row_unique f n xs ys a b = ext_get_or nan xs ys (a.sized ∙ sym b.sized) (λ i h. each i (omega (arith, a.sized)) (ℕ_discrete (i % 2) 0))
@@ -67,25 +77,21 @@ row_unique f n xs ys a b = ext_get_or nan xs ys (a.sized ∙ sym b.sized) (λ i 
     each i h (yes z) = let e : i ≡ 2 * (i / 2) = omega arith in rw e (ap (λ (s : Spot). s.east) (spots (i / 2) (omega arith)))
     each i h (no z) = let e : i ≡ 2 * (i / 2) + 1 = omega arith in rw e (ap (λ (s : Spot). s.north) (spots (i / 2) (omega arith)))
 
-shown_refusal : (r : Shown) → (shown_number r ≡ 0 → ⊥) → r ≡ no-points (shown_number r)
-shown_refusal (no-points v) n = refl
-shown_refusal no-bend n = absurd (n refl)
-shown_refusal Nine n = absurd (n refl)
-
-pub curved_unique : (T : Tables) (m k : ℕ) (xs ys zs : List Float) (r r' : Shown) → Curved T m k xs r ys → Curved T m k xs r' zs → (r ≡ r') × (ys ≡ zs)
-curved_unique T m k xs ys zs r r' a b = go (ℕ_discrete (shown_number r) 0)
+pub curved_unique : (T : Tables) (m k : ℕ) (xs ys zs : List Float) (r r' : Result Bool Refusal) → Curved T m k xs r ys → Curved T m k xs r' zs → (r ≡ r') × (ys ≡ zs)
+curved_unique T m k xs ys zs r r' a b = go (ℕ_discrete (answer_of r) 0)
   where
-    same : shown_number r ≡ shown_number r'
+    same : answer_of r ≡ answer_of r'
     same = asked_unique _ T m _ _ a.asked b.asked
 
-    go : Dec (shown_number r ≡ 0) → (r ≡ r') × (ys ≡ zs)
-    go (yes z) =
-        let c = a.done z in
-        let d = b.done (sym same ∙ z) in
-        (c.answer ∙ sym d.answer, row_unique _ 9 ys zs c.row d.row)
-    go (no z) =
-        let w : shown_number r' ≡ 0 → ⊥ = λ e. z (same ∙ e) in
-        (shown_refusal r z ∙ ap no-points same ∙ sym (shown_refusal r' w), a.refused z ∙ sym (b.refused w))
+    shown : (x : Bool) × (r ≡ Ok x) → (y : Bool) × (r' ≡ Ok y) → (r ≡ r') × (ys ≡ zs)
+    shown x y =
+        let c = (rw x.1 at a).done in
+        let d = (rw y.1 at b).done in
+        (x.1 ∙ ap Ok (c.answer ∙ sym d.answer) ∙ sym y.1, row_unique _ 9 ys zs c.row d.row)
+
+    go : Dec (answer_of r ≡ 0) → (r ≡ r') × (ys ≡ zs)
+    go (yes z) = shown (ok_of r z) (ok_of r' (sym same ∙ z))
+    go (no z) = (same_refusal r r' same z, a.refused z ∙ sym (b.refused (λ e. z (same ∙ e))))
 
 pub filled_unique : (n : ℕ) (kind : Shape → ℕ) (row : Shape → ℕ → Point) (T : Tables) (m k : ℕ) (w w₁ w₂ : List ℕ) (xs xs₁ xs₂ : List Float) (r r' : ℕ)
     → Filled n kind row T m k w xs r w₁ xs₁ → Filled n kind row T m k w xs r' w₂ xs₂ → (r ≡ r') × (w₁ ≡ w₂) × (xs₁ ≡ xs₂)

@@ -2,6 +2,7 @@
 #![tactic(auto)]
 
 ghost use Rattle.std.specs.Prelude.{◌≡◌, true, [], ◌∷◌, length};
+ghost use Rattle.refusals.specs.Numbers.{answer_of};
 ghost use Rattle.tables.specs.Tables.{tables};
 ghost use Rattle.curves.specs.Curve.{At};
 ghost use Rattle.pieces.specs.Showing.{origin};
@@ -12,7 +13,8 @@ ghost use Rattle.drawn_routes.specs.inner.Spots.{Three};
 use answers::named;
 use curves::{Spot, placed};
 use geometry::Place;
-use pieces::{DrawnPiece, Shown, bent, drawn, put};
+use pieces::{DrawnPiece, bent, drawn, put};
+use refusals::Refusal;
 use yard::check;
 
 // Questions 1, 2, 3, 5 and 11.
@@ -23,19 +25,15 @@ fn asked(
     routes: &[u32],
     totals: &[u32],
     number: u32,
-) -> u32
-    ensures { Asked true (tables blocks.now runs.now pairs.now routes.now totals.now) number result }
+) -> Result<(), Refusal>
+    ensures { Asked true (tables blocks.now runs.now pairs.now routes.now totals.now) number (answer_of result) }
 {
-    let v = named(blocks, runs, pairs, routes, totals, number);
-    if v != 0 {
-        return v;
-    }
+    named(blocks, runs, pairs, routes, totals, number)?;
     let m = number as usize;
     if runs[5 * m] == 0 {
-        return 5;
+        return Err(Refusal::Absent);
     }
-    let verdict = check(blocks, runs, pairs, routes, totals);
-    verdict
+    check(blocks, runs, pairs, routes, totals)
 }
 
 // Piece k of run number's route, counted from 0.
@@ -47,19 +45,16 @@ pub fn piece(
     totals: &[u32],
     number: u32,
     k: u32,
-) -> DrawnPiece
+) -> Result<Option<DrawnPiece>, Refusal>
     ensures { Pieced (tables blocks.now runs.now pairs.now routes.now totals.now) number k result }
 {
-    let v = asked(blocks, runs, pairs, routes, totals, number);
-    if v != 0 {
-        return DrawnPiece::Refused(v);
-    }
+    asked(blocks, runs, pairs, routes, totals, number)?;
     let at = 197 * number as usize;
     let end = at + 197;
-    drawn(blocks, runs, &routes[at..end], k)
+    Ok(drawn(blocks, runs, &routes[at..end], k))
 }
 
-// The nine points of piece k of run number's route, where it is a bend, in order of t, east and north: 18 floats.
+// Whether piece k of run number's route is a bend, and its nine points in order of t, east and north: 18 floats.
 pub fn bend_points(
     blocks: &[u16],
     runs: &[u16],
@@ -69,20 +64,17 @@ pub fn bend_points(
     number: u32,
     k: u32,
     points: &mut [f64],
-) -> Shown
+) -> Result<bool, Refusal>
     ensures { Curved (tables blocks.now runs.now pairs.now routes.now totals.now) number k
         points.old result points.new }
 {
     if points.len() != 18 {
-        return Shown::Refused(1);
+        return Err(Refusal::WrongLengths);
     }
-    let v = asked(blocks, runs, pairs, routes, totals, number);
-    if v != 0 {
-        return Shown::Refused(v);
-    }
+    asked(blocks, runs, pairs, routes, totals, number)?;
     let at = 197 * number as usize;
     let end = at + 197;
-    bent(blocks, runs, &routes[at..end], k, points)
+    Ok(bent(blocks, runs, &routes[at..end], k, points))
 }
 
 fn put_kind(kind: &mut [u32], v: u32)
@@ -118,33 +110,33 @@ pub fn fill_piece(
     k: u32,
     kind: &mut [u32],
     points: &mut [f64],
-) -> u32
+) -> Result<(), Refusal>
     ensures { PieceFilled (tables blocks.now runs.now pairs.now routes.now totals.now) number k
-        kind.old points.old result kind.new points.new }
+        kind.old points.old (answer_of result) kind.new points.new }
 {
     if kind.len() != 1 {
-        return 1;
+        return Err(Refusal::WrongLengths);
     }
     if points.len() != 6 {
-        return 1;
+        return Err(Refusal::WrongLengths);
     }
-    match piece(blocks, runs, pairs, routes, totals, number, k) {
-        DrawnPiece::Refused(v) => v,
-        DrawnPiece::Nothing => {
-            let o = nowhere();
-            put_kind(kind, 0);
-            put_three(points, o, o, o);
-            0
-        }
+    let drawn = piece(blocks, runs, pairs, routes, totals, number, k)?;
+    let Some(shown) = drawn else {
+        let o = nowhere();
+        put_kind(kind, 0);
+        put_three(points, o, o, o);
+        return Ok(());
+    };
+    match shown {
         DrawnPiece::Straight(s, t) => {
             put_kind(kind, 1);
             put_three(points, s, t, nowhere());
-            0
+            Ok(())
         }
         DrawnPiece::Bend(s, q, t) => {
             put_kind(kind, 2);
             put_three(points, s, q, t);
-            0
+            Ok(())
         }
     }
 }
@@ -160,22 +152,17 @@ pub fn fill_bend(
     k: u32,
     kind: &mut [u32],
     points: &mut [f64],
-) -> u32
+) -> Result<(), Refusal>
     ensures { BendFilled (tables blocks.now runs.now pairs.now routes.now totals.now) number k
-        kind.old points.old result kind.new points.new }
+        kind.old points.old (answer_of result) kind.new points.new }
 {
     if kind.len() != 1 {
-        return 1;
+        return Err(Refusal::WrongLengths);
     }
-    match bend_points(blocks, runs, pairs, routes, totals, number, k, points) {
-        Shown::Refused(v) => v,
-        Shown::Nothing => {
-            put_kind(kind, 0);
-            0
-        }
-        Shown::Nine => {
-            put_kind(kind, 2);
-            0
-        }
+    if bend_points(blocks, runs, pairs, routes, totals, number, k, points)? {
+        put_kind(kind, 2);
+        return Ok(());
     }
+    put_kind(kind, 0);
+    Ok(())
 }
