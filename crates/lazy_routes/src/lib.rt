@@ -25,13 +25,11 @@ fn list_corners(blocks: &[u16], order: &mut [u16]) -> usize
     ensures { CornersListed blocks.now order.new result }
 {
     let mut n = 0;
-    let mut i = 0;
-    while i < 192 {
+    for i in 0..192 {
         if tables::is_corner(blocks, i) {
             order[n] = i as u16;
             n += 1;
         }
-        i += 1;
     }
     n
 }
@@ -60,14 +58,11 @@ fn tight(
     if more % 256 != 1 {
         return false;
     }
-    let cost = (more / 256) as u64;
+    let cost = u64::from(more / 256);
     let b = place_of(blocks, runs, u);
     let square = lengths::squared(a, b);
     let figure = tables::figure_of(runs);
-    if lengths::is_charge(figure, square, cost) {
-        return sight::sees(blocks, runs, near, last, v, a, u, b);
-    }
-    false
+    lengths::is_charge(figure, square, cost) && sight::sees(blocks, runs, near, last, v, a, u, b)
 }
 
 // The lowest mark after v by the keys.
@@ -87,13 +82,10 @@ fn next_hop(
 {
     let a = place_of(blocks, runs, v);
     let kv = key[v];
-    let mut u = 0;
-    while u < 192 {
-        let ku = key[u];
-        if tight(blocks, runs, near, last, v, a, u, kv, ku) {
+    for u in 0..192 {
+        if tight(blocks, runs, near, last, v, a, u, kv, key[u]) {
             return u;
         }
-        u += 1;
     }
     second
 }

@@ -21,11 +21,9 @@ fn take_words(words: &[u32], order: &[u16], n: usize, key: &mut [u32])
     requires { (length words.now ≡ 240) × (Listed order.now n) × (length key.old ≡ 240) }
     ensures { Taken words.now order.now n key.old key.new }
 {
-    let mut j = 0;
-    while j < n {
-        let v = order[j] as usize;
+    for j in 0..n {
+        let v = usize::from(order[j]);
         key[v] = words[v];
-        j += 1;
     }
 }
 
@@ -71,7 +69,7 @@ fn improved(
     if old < ks + 2 {
         return old;
     }
-    let most = ((old - ks - 2) / 256) as u64;
+    let most = u64::from((old - ks - 2) / 256);
     let square = lengths::squared(a, b);
     let figure = tables::figure_of(runs);
     if lengths::dearer(figure, square, most) {
@@ -102,10 +100,8 @@ fn tried_key(
 {
     let a = place_of(blocks, runs, v);
     let mut best: u32 = 4000000000;
-    let mut i = hi;
-    while lo < i {
-        i -= 1;
-        let s = order[i] as usize;
+    for i in (lo..hi).rev() {
+        let s = usize::from(order[i]);
         let b = place_of(blocks, runs, s);
         let ks = key[s];
         best = improved(blocks, runs, near, last, v, a, s, b, ks, best);
@@ -132,13 +128,11 @@ fn ease(
     ensures sized { length last.new ≡ 240 }
 {
     let b = place_of(blocks, runs, s);
-    let mut j = lo;
-    while j < hi {
-        let v = order[j] as usize;
+    for j in lo..hi {
+        let v = usize::from(order[j]);
         let a = place_of(blocks, runs, v);
         let old = key[v];
         key[v] = improved(blocks, runs, near, last, v, a, s, b, ks, old);
-        j += 1;
     }
 }
 
@@ -168,7 +162,7 @@ pub fn settle(
         let next = heaps::least(&bounds, key, order, hoped, due);
         if heaps::sooner(&bounds, key, order, 0, hoped, next, due) {
             hoped -= 1;
-            let v = order[0] as usize;
+            let v = usize::from(order[0]);
             heaps::swap(order, 0, hoped);
             key[v] = tried_key(blocks, runs, near, &mut last, order, due, count, key, v);
             heaps::sift(&bounds, key, order, 0, hoped);
@@ -177,7 +171,7 @@ pub fn settle(
         if due <= next {
             return false;
         }
-        let s = order[next] as usize;
+        let s = usize::from(order[next]);
         if s == first {
             return true;
         }

@@ -16,7 +16,13 @@ pub returns-then-more-ne1 : goal.returns-then-more-ne1
 returns-then-more-ne1 c = record { tells = loose_straights _ _ _ _ _ _ c.if-ku-kv.false (λ q. omega (arith, c.if-more-ne1.true)); sized = c.requires.sound.2 }
 
 pub returns-then-is_charge : goal.returns-then-is_charge
-returns-then-is_charge c = record { tells = by_sight _ _ _ _ _ _ _ c.if-ku-kv.false ((let h : cost (stored c.args.blocks.now c.args.runs.now) c.args.v c.args.u ≡ charge c.figure_of-figure.result (root_up c.squared-square.result) = cost_is _ _ _ _ _ _ _ c.requires.sound.3 c.place_of-b.ensures c.figure_of-figure.ensures c.squared-square.ensures.value in h)) _ c.requires.v_bound.2 (omega (arith, c.if-more-ne1.false)) _ c.is_charge.ensures c.if-is_charge.true c.sees.ensures.tells; sized = c.sees.ensures.sized }
+returns-then-is_charge c =
+    let e = rw c.from-cost.ensures at c.is_charge.ensures in
+    let h : cost (stored c.args.blocks.now c.args.runs.now) c.args.v c.args.u ≡ charge c.figure_of-figure.result (root_up c.squared-square.result) = cost_is _ _ _ _ _ _ _ c.requires.sound.3 c.place_of-b.ensures c.figure_of-figure.ensures c.squared-square.ensures.value in
+    record { tells = by_sight _ _ _ _ _ _ _ c.if-ku-kv.false h _ c.requires.v_bound.2 (omega (arith, c.if-more-ne1.false)) _ e c.if-is_charge.true c.sees.ensures.tells; sized = c.sees.ensures.sized }
 
-pub returns : goal.returns
-returns c = record { tells = loose_cost _ _ _ _ _ _ _ c.if-ku-kv.false ((let h : cost (stored c.args.blocks.now c.args.runs.now) c.args.v c.args.u ≡ charge c.figure_of-figure.result (root_up c.squared-square.result) = cost_is _ _ _ _ _ _ _ c.requires.sound.3 c.place_of-b.ensures c.figure_of-figure.ensures c.squared-square.ensures.value in h)) _ c.is_charge.ensures c.if-is_charge.false; sized = c.requires.sound.2 }
+pub returns-else-is_charge : goal.returns-else-is_charge
+returns-else-is_charge c =
+    let e = rw c.from-cost.ensures at c.is_charge.ensures in
+    let h : cost (stored c.args.blocks.now c.args.runs.now) c.args.v c.args.u ≡ charge c.figure_of-figure.result (root_up c.squared-square.result) = cost_is _ _ _ _ _ _ _ c.requires.sound.3 c.place_of-b.ensures c.figure_of-figure.ensures c.squared-square.ensures.value in
+    record { tells = rw c.if-is_charge.false (loose_cost _ _ _ _ _ _ _ c.if-ku-kv.false h _ e c.if-is_charge.false); sized = c.requires.sound.2 }

@@ -1,5 +1,4 @@
 use mathlib.Core.Path.{◌≡◌}
-use Prim.Native.Nat.{◌-◌, ◌≤◌}
 use lib.ListN.{length}
 use Rattle.tables.specs.Tables.{stored}
 use Rattle.heaps.specs.inner.Marks.{Among}
@@ -7,7 +6,4 @@ use Rattle.lazy_search.specs.inner.Lazy.{straights, Eased}
 use Rattle.lazy_search.proofs.ease.Given as goal
 
 abbrev pub invariant-loop-j : goal.invariant-loop-j
-invariant-loop-j l = (l.lo ≤ l.j) × (l.j ≤ l.hi) × (length l.last ≡ 240) × Eased (straights (stored l.blocks l.runs)) (Among l.order l.lo l.j) l.initial.key l.key l.s l.ks
-
-abbrev pub decreases-loop-j : goal.decreases-loop-j
-decreases-loop-j l = l.hi - l.j
+invariant-loop-j l = (length l.last ≡ 240) × Eased (straights (stored l.blocks l.runs)) (Among l.order l.lo l.j) l.initial.key l.key l.s l.ks

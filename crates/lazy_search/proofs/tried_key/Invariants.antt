@@ -7,7 +7,4 @@ use Rattle.lazy_search.specs.inner.Lazy.{straights, Exact}
 use Rattle.lazy_search.proofs.tried_key.Given as goal
 
 abbrev pub invariant-loop-i : goal.invariant-loop-i
-invariant-loop-i l = (l.lo ≤ l.i) × (l.i ≤ l.hi) × (length l.last ≡ 240) × Exact (straights (stored l.blocks l.runs)) (Among l.order l.i l.hi) l.key l.v l.best
-
-abbrev pub decreases-loop-i : goal.decreases-loop-i
-decreases-loop-i l = l.i
+invariant-loop-i l = (l.lo ≤ l.i) × (length l.last ≡ 240) × Exact (straights (stored l.blocks l.runs)) (Among l.order l.i l.hi) l.key l.v l.best
