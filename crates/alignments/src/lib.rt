@@ -37,7 +37,7 @@ fn mark_sides(words: &[u16], places: &Places, row: &mut [u8])
     requires { (BoundedRecord words.now) × (Marks places.now.east places.now.north) × (Blank row.old) }
     ensures { SidesRow words.now places.now.east places.now.north 0 row.new }
 {
-    for k in (0..words[0] as usize).rev() {
+    for k in (0..usize::from(words[0])).rev() {
         mark_side(words, k, places, row);
     }
 }

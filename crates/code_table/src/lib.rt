@@ -99,7 +99,7 @@ pub fn line_of(words: &[u16], k: usize) -> Line
     requires { (BoundedRecord words.now) × (k < word words.now 0) }
     ensures { LineOf (corners words.now) k result.east result.north result.level }
 {
-    let m = words[0] as usize;
+    let m = usize::from(words[0]);
     let p = corner(words, k);
     let q = corner(words, next(k, m));
     let east = difference(q.east, p.east);
@@ -154,7 +154,7 @@ pub fn block_row(words: &[u16], places: &Places, row: &mut [u8])
     requires { (BoundedRecord words.now) × (Marks places.now.east places.now.north) × (length row.old ≡ 240) }
     ensures { RowIs words.now places.now.east places.now.north row.new }
 {
-    let m = words[0] as usize;
+    let m = usize::from(words[0]);
     if m == 0 {
         fill8(row, 255);
         return;

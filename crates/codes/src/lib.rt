@@ -60,12 +60,12 @@ fn side_of(a: Place, b: Place, v: Place) -> Side
 {
     let t = turn(a, b, v);
     if t < 0 {
-        return Side::Right;
+        Side::Right
+    } else if 0 < t {
+        Side::Left
+    } else {
+        Side::On
     }
-    if 0 < t {
-        return Side::Left;
-    }
-    Side::On
 }
 
 // The side that corner k of a block record is on.
