@@ -1,11 +1,13 @@
 -- The steps of a crossing by direction: 0 west, 1 south, 2 north, 3 east.
-use mathlib.Core.Path.{◌≡◌, sym, subst}
+use mathlib.Core.Path.{◌≡◌, refl, sym, subst}
 use mathlib.Core.Logic.{inl, inr}
 use mathlib.Core.Bool.{cond}
 use mathlib.Core.List.{List}
 use Prim.Native.Nat.{ℕ, zero, suc, ◌+◌, ◌-◌, ◌≤◌, ◌<◌}
 use native.Mathlib.Omega.{arith}
 use lib.Dec.{eqb}
+use Rattle.std.specs.Prelude.{min}
+use Rattle.std.proofs.lemmas.Bool.{ne_eqb}
 use Rattle.crossings.specs.Grid.{Grid, Beside, west, south, north, east, Stepping, axis_of}
 use Rattle.crossings.specs.inner.Charts.{ruled, Ruled, Charted, west_of, south_of, north_of, east_of, step_of, axis_by}
 use Rattle.crossings.specs.declared.Direction.{Direction}
@@ -32,6 +34,25 @@ code_small West = omega arith
 code_small South = omega arith
 code_small North = omega arith
 code_small East = omega arith
+
+-- a number leads where the direction that it stands for does
+pub numbered_step : (steps : List ℕ) (d v : ℕ) → step_of steps (min d 3) v ≡ step_of steps d v
+unfolding step_of
+numbered_step steps zero v = refl
+numbered_step steps (suc zero) v = refl
+numbered_step steps (suc (suc zero)) v = refl
+numbered_step steps (suc (suc (suc d))) v =
+    let e : min (suc (suc (suc d))) 3 ≡ 3 = omega arith in
+    rw (e, ne_eqb (suc (suc (suc d))) 0 (λ h. omega arith), ne_eqb (suc (suc (suc d))) 1 (λ h. omega arith), ne_eqb (suc (suc (suc d))) 2 (λ h. omega arith)) refl
+
+pub numbered_axis : (d : ℕ) → axis_by (min d 3) ≡ axis_by d
+unfolding axis_by
+numbered_axis zero = refl
+numbered_axis (suc zero) = refl
+numbered_axis (suc (suc zero)) = refl
+numbered_axis (suc (suc (suc d))) =
+    let e : min (suc (suc (suc d))) 3 ≡ 3 = omega arith in
+    rw (e, ne_eqb (suc (suc (suc d))) 1 (λ h. omega arith), ne_eqb (suc (suc (suc d))) 2 (λ h. omega arith)) refl
 
 -- where a direction leads somewhere, it is there
 pub step_at : (steps : List ℕ) (d v : ℕ) → d ≤ 3 → step_of steps d v < 4356

@@ -1,7 +1,7 @@
 // The crossings of a duct's lines, and the steps between them: each straight is tested once, and its answer is kept.
 #![tactic(auto)]
 
-ghost use Rattle.std.specs.Prelude.{◌≡◌, ◌+◌, ◌<◌, ◌≤◌, length};
+ghost use Rattle.std.specs.Prelude.{◌≡◌, ◌+◌, ◌<◌, ◌≤◌, length, min};
 ghost use Rattle.geometry.specs.Words.{point_of};
 ghost use Rattle.geometry.specs.inner.Bounds.{Bounded};
 ghost use Rattle.seams.specs.inner.Near.{Near};
@@ -33,6 +33,18 @@ pub enum Direction {
 }
 
 impl Direction {
+    // The direction that a number stands for: 3 and above is east.
+    pub fn numbered(d: usize) -> Direction
+        ensures { code result ≡ min d 3 }
+    {
+        match d {
+            0 => Direction::West,
+            1 => Direction::South,
+            2 => Direction::North,
+            _ => Direction::East,
+        }
+    }
+
     #[tactic(auto, unfolding(crate::specs::inner::Charts::axis_by))]
     pub fn axis(self) -> Axis
         ensures { axis_code result ≡ axis_by (code self) }
