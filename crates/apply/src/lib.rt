@@ -5,13 +5,16 @@ ghost use Rattle.tables.specs.Tables.{tables};
 ghost use Rattle.book.specs.Edits.{Called};
 ghost use Rattle.fields.specs.Asked.{edit_of};
 ghost use Rattle.apply.specs.inner.Whole.{Whole};
+ghost use Rattle.refusals.specs.Numbers.{answer_of};
 
 use block_edits::remove_block;
 use fields::{add_block_at, add_run_at, move_block_at, move_run_at, set_charge_at};
+use refusals::Refusal;
 use run_edits::remove_run;
-use yardfile::Item;
+use yardfile::{Item, Kind};
 
 // Calls the edit that a record asks for.
+#[tactic(auto, unfolding(fields::specs::Asked::edit_for))]
 pub fn apply(
     file: &[u8],
     item: Item,
@@ -20,32 +23,21 @@ pub fn apply(
     pairs: &mut [u8],
     routes: &mut [u32],
     totals: &mut [u32],
-) -> u32
+) -> Result<(), Refusal>
     requires { Whole file.now item }
     ensures { Called (edit_of file.now item)
         (tables blocks.old runs.old pairs.old routes.old totals.old)
-        result (tables blocks.new runs.new pairs.new routes.new totals.new) }
+        (answer_of result) (tables blocks.new runs.new pairs.new routes.new totals.new) }
 {
-    let kind = item.kind;
-    let number = item.number as u32;
+    let number = u32::from(item.number);
     let at = item.fields;
-    if kind == 1 {
-        return add_block_at(file, at, blocks, runs, pairs, routes, totals, number);
+    match item.kind {
+        Kind::AddBlock => add_block_at(file, at, blocks, runs, pairs, routes, totals, number),
+        Kind::RemoveBlock => remove_block(blocks, runs, pairs, routes, totals, number),
+        Kind::MoveBlock => move_block_at(file, at, blocks, runs, pairs, routes, totals, number),
+        Kind::AddRun => add_run_at(file, at, blocks, runs, pairs, routes, totals, number),
+        Kind::RemoveRun => remove_run(blocks, runs, pairs, routes, totals, number),
+        Kind::MoveRun => move_run_at(file, at, blocks, runs, pairs, routes, totals, number),
+        Kind::SetCharge => set_charge_at(file, at, blocks, runs, pairs, routes, totals),
     }
-    if kind == 2 {
-        return remove_block(blocks, runs, pairs, routes, totals, number);
-    }
-    if kind == 3 {
-        return move_block_at(file, at, blocks, runs, pairs, routes, totals, number);
-    }
-    if kind == 4 {
-        return add_run_at(file, at, blocks, runs, pairs, routes, totals, number);
-    }
-    if kind == 5 {
-        return remove_run(blocks, runs, pairs, routes, totals, number);
-    }
-    if kind == 6 {
-        return move_run_at(file, at, blocks, runs, pairs, routes, totals, number);
-    }
-    set_charge_at(file, at, blocks, runs, pairs, routes, totals)
 }

@@ -18,9 +18,8 @@ pub charge_called : (T T' : Tables) (r g g' : ℕ) → g ≡ g' → Called (set_
 charge_called T T' r g g' e c = rw e at c
 
 module _ (n : ℕ) (T T' : Tables) (r : ℕ) where
-  pub block_called : (f : List ℕ) (at b : ℕ) (ws : List ℕ) → b ≡ byte f at → take (2 * byte f at) ws ≡ corner_words f at
-      → Called (add_block n (take (2 * b) ws)) T r T' → Called (add_block n (corner_words f at)) T r T'
-  block_called f at b ws e w c = rw (e, w) at c
+  pub block_called : (ws vs : List ℕ) → vs ≡ ws → Called (add_block n vs) T r T' → Called (add_block n ws) T r T'
+  block_called ws vs w c = rw w at c
 
   pub run_called : (p q p' q' : Point) → p ≡ p' → q ≡ q' → Called (add_run n p q) T r T' → Called (add_run n p' q') T r T'
   run_called p q p' q' e f c = rw (e, f) at c

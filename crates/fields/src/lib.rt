@@ -8,11 +8,13 @@ ghost use Rattle.book.specs.Book.{add_block, move_block, add_run, move_run, set_
 ghost use Rattle.book.specs.Edits.{Called};
 ghost use Rattle.file_words.specs.Words.{byte, block_size, field, displacement, corner_words};
 ghost use Rattle.fields.specs.Asked.{place_in};
+ghost use Rattle.refusals.specs.Numbers.{answer_of};
 
 use block_edits::{add_block, move_block};
 use charge_edits::set_charge;
-use file_words::{byte_at, corner_words, displacement, field};
+use file_words::{corner_words, displacement, field};
 use geometry::Place;
+use refusals::Refusal;
 use run_edits::{add_run, move_run};
 
 // The place whose two coordinates stand at a position.
@@ -35,15 +37,15 @@ pub fn add_block_at(
     routes: &mut [u32],
     totals: &mut [u32],
     number: u32,
-) -> u32
+) -> Result<(), Refusal>
     requires { (at + block_size (byte file.now 3) (byte file.now at) ≤ length file.now) × (length file.now ≤ 8192) }
     ensures { Called (add_block number (corner_words file.now at))
         (tables blocks.old runs.old pairs.old routes.old totals.old)
-        result (tables blocks.new runs.new pairs.new routes.new totals.new) }
+        (answer_of result) (tables blocks.new runs.new pairs.new routes.new totals.new) }
 {
-    let n = 2 * (byte_at(file, at) as usize);
-    let words = corner_words(file, at);
-    add_block(blocks, runs, pairs, routes, totals, number, &words[..n])
+    let mut room = [0u16; 510];
+    let words = corner_words(file, at, &mut room);
+    add_block(blocks, runs, pairs, routes, totals, number, words)
 }
 
 // Moves a block by the displacement that stands at a position.
@@ -56,11 +58,11 @@ pub fn move_block_at(
     routes: &mut [u32],
     totals: &mut [u32],
     number: u32,
-) -> u32
+) -> Result<(), Refusal>
     requires { at + 4 ≤ length file.now }
     ensures { Called (move_block number (displacement (field file.now at)) (displacement (field file.now (at + 2))))
         (tables blocks.old runs.old pairs.old routes.old totals.old)
-        result (tables blocks.new runs.new pairs.new routes.new totals.new) }
+        (answer_of result) (tables blocks.new runs.new pairs.new routes.new totals.new) }
 {
     let east = field(file, at);
     let north = field(file, at + 2);
@@ -86,11 +88,11 @@ pub fn add_run_at(
     routes: &mut [u32],
     totals: &mut [u32],
     number: u32,
-) -> u32
+) -> Result<(), Refusal>
     requires { at + 8 ≤ length file.now }
     ensures { Called (add_run number (place_in file.now at) (place_in file.now (at + 4)))
         (tables blocks.old runs.old pairs.old routes.old totals.old)
-        result (tables blocks.new runs.new pairs.new routes.new totals.new) }
+        (answer_of result) (tables blocks.new runs.new pairs.new routes.new totals.new) }
 {
     let first = place_in(file, at);
     let second = place_in(file, at + 4);
@@ -107,11 +109,11 @@ pub fn move_run_at(
     routes: &mut [u32],
     totals: &mut [u32],
     number: u32,
-) -> u32
+) -> Result<(), Refusal>
     requires { at + 8 ≤ length file.now }
     ensures { Called (move_run number (place_in file.now at) (place_in file.now (at + 4)))
         (tables blocks.old runs.old pairs.old routes.old totals.old)
-        result (tables blocks.new runs.new pairs.new routes.new totals.new) }
+        (answer_of result) (tables blocks.new runs.new pairs.new routes.new totals.new) }
 {
     let first = place_in(file, at);
     let second = place_in(file, at + 4);
@@ -127,11 +129,11 @@ pub fn set_charge_at(
     pairs: &mut [u8],
     routes: &mut [u32],
     totals: &mut [u32],
-) -> u32
+) -> Result<(), Refusal>
     requires { at + 2 ≤ length file.now }
     ensures { Called (set_charge (field file.now at))
         (tables blocks.old runs.old pairs.old routes.old totals.old)
-        result (tables blocks.new runs.new pairs.new routes.new totals.new) }
+        (answer_of result) (tables blocks.new runs.new pairs.new routes.new totals.new) }
 {
     let figure = field(file, at);
     set_charge(blocks, runs, pairs, routes, totals, figure)

@@ -9,12 +9,6 @@ use Rattle.replay.specs.Replay.{Replayed, too_short, whole}
 use Rattle.replay.proofs.Numbers.{reads_not_one}
 use Rattle.file_calls.specs.Replaying.{ReplayedInto, wrong_lengths, the_replay}
 
-pub two_set : (l : List ℕ) (a b : ℕ) → length l ≡ 2 → set (set l 0 a) 1 b ≡ a ∷ b ∷ []
-two_set [] a b e = absurd (omega arith)
-two_set (w ∷ []) a b e = absurd (omega arith)
-two_set (w ∷ x ∷ []) a b e = refl
-two_set (w ∷ x ∷ y ∷ l) a b e = absurd (omega arith)
-
 pub no_end : (f old end : List ℕ) (T : Tables) → (length end ≡ 2 → ⊥) → ReplayedInto f T old end 1 old end T
 no_end f old end T h = wrong_lengths (λ l. h l.1)
 

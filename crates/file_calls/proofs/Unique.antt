@@ -1,5 +1,6 @@
 -- What the exported read and the exported replay answer and leave is determined.
-use mathlib.Core.Path.{◌≡◌, refl}
+use mathlib.Core.Path.{◌≡◌, refl, ap}
+use Rattle.refusals.specs.Numbers.{number_of}
 use mathlib.Core.List.{List}
 use Prim.Native.Nat.{ℕ}
 use native.Mathlib.Omega.{arith}
@@ -25,7 +26,7 @@ read_into_unique (the_end l e) (refusal l' e') = let z : ◌≡◌ {A = ℕ} 0 1
 read_into_unique (refusal l e) (wrong_length h) = absurd (h l)
 read_into_unique (refusal l e) (a_record l' e') = let z : ◌≡◌ {A = ℕ} 0 1 = cc in absurd (omega arith)
 read_into_unique (refusal l e) (the_end l' e') = let z : ◌≡◌ {A = ℕ} 0 1 = cc in absurd (omega arith)
-read_into_unique (refusal l e) (refusal l' e') = (cc, refl)
+read_into_unique (refusal {r = r} l e) (refusal {r = r'} l' e') = let s : r ≡ r' = cc in (ap number_of s, refl)
 
 pub replayed_into_unique : {f : List ℕ} {T U U' : Tables} {old end ws ws' end₁ end₂ : List ℕ} {n n' : ℕ}
     → ReplayedInto f T old end n ws end₁ U → ReplayedInto f T old end n' ws' end₂ U'

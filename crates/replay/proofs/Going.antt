@@ -11,17 +11,21 @@ use Rattle.book.specs.Book.{Edit}
 use Rattle.book.specs.Edits.{Called}
 use Rattle.book.specs.History.{Calls, no_calls, call}
 use Rattle.yardfile.specs.declared.Item.{Item}
-use Rattle.yardfile.specs.declared.Reading.{Reading}
-use Rattle.yardfile.specs.declared.Reading.TheVariants.{Found}
-use Rattle.yardfile.specs.File.{read_at, number_of}
-use Rattle.yardfile.specs.contracts.Reading as R
-use Rattle.replay.specs.Replay.{Reads, onward, stop_at, EditsCalled}
+use Rattle.std.proofs.Common.{Option, Some, None, Result, Ok, Err}
+use Rattle.refusals.specs.declared.Refusal.{Refusal}
+use Rattle.refusals.specs.Numbers.{number_of}
+use Rattle.yardfile.specs.File.{read_at}
+use Rattle.replay.specs.Replay.{Reads, at_end, at_stop, onward, stop_at, EditsCalled}
 use Rattle.fields.specs.Asked.{edit_of}
-use Rattle.replay.proofs.Taken.{taken, ended}
+use Rattle.replay.proofs.Taken.{taken}
 
 calls_more : {es : List Edit} {T T₁ T₂ : Tables} {rs : List ℕ} {e : Edit} {r : ℕ} → Calls es T rs T₁ → Called e T₁ r T₂ → Calls (es ++ (e ∷ [])) T (rs ++ (r ∷ [])) T₂
 calls_more no_calls c = call c no_calls
 calls_more (call d cs) c = call d (calls_more cs c)
+
+-- what the reader found, said of the file
+pub read_is : (f : List ℕ) (at : ℕ) (r : Result (Option Item) Refusal) (o x : Option Item) → r ≡ read_at f at → r ≡ Ok o → o ≡ x → read_at f at ≡ Ok x
+read_is f at r o x e q s = cc
 
 pub record Going (f : List ℕ) (T₀ : Tables) (old answers : List ℕ) (count at : ℕ) (T : Tables) : Type 0 where
   pub edits : List Edit
@@ -37,18 +41,16 @@ going_none f T old =
     record { edits = []; rest = λ es n stop r. r; counted = refl; calls = no_calls; kept = refl; sized = refl; room = omega arith }
 
 module _ (f : List ℕ) (T₀ : Tables) (old answers : List ℕ) (count at : ℕ) (T : Tables) (g : Going f T₀ old answers count at T) where
-  pub going_end : (x : Reading) (n stop : ℕ) → ((i : Item) → x ≡ Found i → ⊥) → x ≡ read_at f at → n ≡ number_of x → stop ≡ stop_at n at
-      → EditsCalled f T₀ old answers count n stop T
-  going_end x n stop h e q s =
-      record {
-        edits = g.edits;
-        reads = rw (s, q, ← (append-nil g.edits)) (g.rest [] (number_of x) (stop_at (number_of x) at) (ended f at x h (sym e)));
-        counted = g.counted;
-        calls = g.calls;
-        kept = g.kept;
-      }
+  ends : (n stop : ℕ) → Reads f at [] n stop → EditsCalled f T₀ old answers count n stop T
+  ends n stop r = record { edits = g.edits; reads = rw (← (append-nil g.edits)) (g.rest [] n stop r); counted = g.counted; calls = g.calls; kept = g.kept }
 
-  module _ (i : Item) (found : read_at f at ≡ Found i) where
+  pub going_end : read_at f at ≡ Ok None → EditsCalled f T₀ old answers count 0 at T
+  going_end e = ends 0 at (at_end e)
+
+  pub going_stop : (r : Refusal) (stop : ℕ) → read_at f at ≡ Err r → stop ≡ stop_at (number_of r) at → EditsCalled f T₀ old answers count (number_of r) stop T
+  going_stop r stop e s = rw s (ends (number_of r) (stop_at (number_of r) at) (at_stop e))
+
+  module _ (i : Item) (found : read_at f at ≡ Ok (Some i)) where
     -- 4,093 records at most
     pub going_room : count < 4096
     going_room = let t = taken f at i found in omega (arith, g.room, t.small, t.fits)

@@ -1,5 +1,5 @@
 -- The numbers that a replay can end with.
-use mathlib.Core.Path.{◌≡◌, refl}
+use mathlib.Core.Path.{◌≡◌, refl, ap}
 use mathlib.Core.Bool.{Bool, true, false, ◌&&◌, cond}
 use mathlib.Core.List.{List}
 use mathlib.Core.Logic.{◌⊎◌, inl, inr}
@@ -9,23 +9,31 @@ use lib.Dec.{leb, eqb}
 use lib.ListN.{length}
 use Rattle.book.specs.Book.{Edit}
 use Rattle.yardfile.specs.declared.Item.{Item}
-use Rattle.yardfile.specs.declared.Reading.TheVariants.{Found, End, Refused}
+use Rattle.std.proofs.Common.{Option, Some, None, Result, Ok, Err}
+use Rattle.refusals.specs.declared.Refusal.{Refusal}
+use Rattle.refusals.specs.declared.Refusal.TheVariants.{NoYardFile, BrokenRecord, CornerOffTheYard}
+use Rattle.refusals.specs.Numbers.{number_of}
 use Rattle.yardfile.specs.File.{head_right, record_whole, corners_right, item_at, read_at}
 use Rattle.replay.specs.Replay.{Reads, at_end, at_stop, onward}
 
-refused_number : (h b e w t : Bool) (i : Item) (n : ℕ) → cond h (cond b (cond e End (cond w (cond t (Found i) (Refused 22)) (Refused 10))) (Refused 10)) (Refused 9) ≡ Refused n
-    → (n ≡ 9) ⊎ ((n ≡ 10) ⊎ (n ≡ 22))
-refused_number false b e w t i n q = inl cc
-refused_number true false e w t i n q = inr (inl cc)
-refused_number true true true w t i n q = let z : ◌≡◌ {A = ℕ} 0 1 = cc in absurd (omega arith)
-refused_number true true false false t i n q = inr (inl cc)
-refused_number true true false true false i n q = inr (inr cc)
-refused_number true true false true true i n q = let z : ◌≡◌ {A = ℕ} 0 1 = cc in absurd (omega arith)
+refused_number : (h b e w t : Bool) (i : Item) (r : Refusal)
+    → ◌≡◌ {A = Result (Option Item) Refusal} (cond h (cond b (cond e (Ok None) (cond w (cond t (Ok (Some i)) (Err CornerOffTheYard)) (Err BrokenRecord))) (Err BrokenRecord)) (Err NoYardFile)) (Err r)
+    → (r ≡ NoYardFile) ⊎ ((r ≡ BrokenRecord) ⊎ (r ≡ CornerOffTheYard))
+refused_number false b e w t i r q = inl cc
+refused_number true false e w t i r q = inr (inl cc)
+refused_number true true true w t i r q = let z : ◌≡◌ {A = ℕ} 0 1 = cc in absurd (omega arith)
+refused_number true true false false t i r q = inr (inl cc)
+refused_number true true false true false i r q = inr (inr cc)
+refused_number true true false true true i r q = let z : ◌≡◌ {A = ℕ} 0 1 = cc in absurd (omega arith)
 
-pub read_refuses : (f : List ℕ) (at n : ℕ) → read_at f at ≡ Refused n → (n ≡ 9) ⊎ ((n ≡ 10) ⊎ (n ≡ 22))
+pub read_refuses : (f : List ℕ) (at : ℕ) (r : Refusal) → read_at f at ≡ Err r → (number_of r ≡ 9) ⊎ ((number_of r ≡ 10) ⊎ (number_of r ≡ 22))
 unfolding read_at
-read_refuses f at n q =
-    refused_number (head_right f) (leb 5 at && leb at (length f)) (eqb at (length f)) (record_whole f at) (corners_right f at) (item_at f at) n q
+read_refuses f at r q = go (refused_number (head_right f) (leb 5 at && leb at (length f)) (eqb at (length f)) (record_whole f at) (corners_right f at) (item_at f at) r q)
+  where
+    go : (r ≡ NoYardFile) ⊎ ((r ≡ BrokenRecord) ⊎ (r ≡ CornerOffTheYard)) → (number_of r ≡ 9) ⊎ ((number_of r ≡ 10) ⊎ (number_of r ≡ 22))
+    go (inl e) = inl (ap number_of e)
+    go (inr (inl e)) = inr (inl (ap number_of e))
+    go (inr (inr e)) = inr (inr (ap number_of e))
 
 -- 0 at the end, 9, 10 or 22 at a stop
 pub reads_number : {f : List ℕ} {at n stop : ℕ} {es : List Edit} → Reads f at es n stop → (n ≡ 0) ⊎ ((n ≡ 9) ⊎ ((n ≡ 10) ⊎ (n ≡ 22)))

@@ -11,9 +11,9 @@ use Rattle.geometry.specs.Words.{point}
 use Rattle.tables.specs.Tables.{Tables}
 use Rattle.book.specs.Book.{Edit, add_block, remove_block, move_block, add_run, remove_run, move_run, set_charge}
 use Rattle.file_words.specs.Words.{byte, fields_from, displacement}
-use Rattle.yardfile.specs.File.{plain_words, head_right, record_whole, item_at}
+use Rattle.yardfile.specs.File.{kind_of, plain_words, head_right, record_whole, item_at}
 use Rattle.yardfile.proofs.Cases.{whole_kind, whole_fits, head_pieces}
-use Rattle.fields.specs.Asked.{edit_of}
+use Rattle.fields.specs.Asked.{edit_for, edit_of}
 use Rattle.file_records.specs.Records.{Rec, next_at, words_at, rec_at, records}
 use Rattle.file_records.specs.Conversions.{converted, answer}
 use Rattle.file_records.specs.inner.Asked.{asked}
@@ -39,7 +39,7 @@ module _ (f : List ℕ) (at : ℕ) where
   third = omega arith
 
   edit_by : (k : ℕ) → byte f at ≡ k → 1 ≤ k → k ≤ 7 → edit_of f (item_at f at) ≡ rec_edit (rec_at f at)
-  unfolding edit_of rec_edit words_at plain_words fields_from
+  unfolding edit_for kind_of rec_edit words_at plain_words fields_from
   edit_by zero e l h = absurd (omega arith)
   edit_by (suc zero) e l h = rw e
   edit_by (suc (suc zero)) e l h = rw e

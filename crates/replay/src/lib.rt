@@ -1,42 +1,44 @@
 // Replays the edits of a yard file over five tables that the caller lends.
 #![tactic(auto)]
 
-ghost use Rattle.std.specs.Prelude.{◌≡◌, ◌≤◌, length};
+ghost use Rattle.std.specs.Prelude.{◌≡◌, ◌≤◌, length, MatchResult};
+ghost use Rattle.refusals.specs.Numbers.{number_of};
+ghost use Rattle.refusals.specs.declared.Refusal.TheVariants.{WrongLengths};
 ghost use Rattle.tables.specs.Tables.{tables};
-ghost use Rattle.yardfile.specs.File.{number_of};
-ghost use Rattle.replay.specs.Replay.{stop_at, EditsCalled, Replayed};
+ghost use Rattle.replay.specs.Replay.{stop_at, stop_number, EditsCalled, Replayed, count_of, number_answered, at_of};
 
 use apply::apply;
-use yardfile::{Reading, read_from};
+use refusals::{Refusal, answer};
+use yardfile::read_from;
 
-// How a replay ended: how many edits were called, the number of the stop, 0 at the file's end, and the position there.
-// 1 where fewer than 4,096 words are lent for the answers.
-#[derive(Clone, Copy)]
+// How a replay ended: how many edits were called, the stop, none at the file's end, and the position there.
+#[derive(Clone, Copy, Debug, PartialEq, Eq)]
 pub struct Outcome {
     pub count: usize,
-    pub number: u32,
+    pub stop: Option<Refusal>,
     pub at: usize,
 }
 
-// The number of the question that a reading fails, 0 where it fails none.
-fn number_of(reading: Reading) -> u32
-    ensures { result ≡ number_of reading }
-{
-    match reading {
-        Reading::Found(_) => 0,
-        Reading::End => 0,
-        Reading::Refused(n) => n,
+impl Outcome {
+    // The number of the stop, 0 at the file's end.
+    pub fn number(self) -> u32
+        ensures { result ≡ stop_number self.stop }
+    {
+        match self.stop {
+            Some(refusal) => refusal.number(),
+            None => 0,
+        }
     }
 }
 
-// The position that a stop with this number names.
-fn stop_position(number: u32, at: usize) -> usize
-    ensures { result ≡ stop_at number at }
+// The position that a stop names.
+fn stop_position(refusal: Refusal, at: usize) -> usize
+    ensures { result ≡ stop_at (number_of refusal) at }
 {
-    if number == 9 {
-        return 0;
+    match refusal {
+        Refusal::NoYardFile => 0,
+        _ => at,
     }
-    at
 }
 
 // Calls the edits of a yard file in order, up to its end or its stop, and stores their answers.
@@ -52,25 +54,34 @@ fn call_edits(
     requires { 4096 ≤ length answers.old }
     ensures { EditsCalled file.now
         (tables blocks.old runs.old pairs.old routes.old totals.old)
-        answers.old answers.new result.count result.number result.at
+        answers.old answers.new result.count (stop_number result.stop) result.at
         (tables blocks.new runs.new pairs.new routes.new totals.new) }
 {
     let mut count: usize = 0;
     let mut at: usize = 5;
     loop {
-        let reading = read_from(file, at);
-        let Reading::Found(item) = reading else {
-            let number = number_of(reading);
-            return Outcome {
-                count,
-                number,
-                at: stop_position(number, at),
-            };
-        };
-        let answer = apply(file, item, blocks, runs, pairs, routes, totals);
-        answers[count] = answer;
-        count += 1;
-        at = item.next;
+        match read_from(file, at) {
+            Ok(Some(item)) => {
+                let answer = answer(apply(file, item, blocks, runs, pairs, routes, totals));
+                answers[count] = answer;
+                count += 1;
+                at = item.next;
+            }
+            Ok(None) => {
+                return Outcome {
+                    count,
+                    stop: None,
+                    at,
+                };
+            }
+            Err(refusal) => {
+                return Outcome {
+                    count,
+                    stop: Some(refusal),
+                    at: stop_position(refusal, at),
+                };
+            }
+        }
     }
 }
 
@@ -83,18 +94,15 @@ pub fn replay(
     routes: &mut [u32],
     totals: &mut [u32],
     answers: &mut [u32],
-) -> Outcome
-    ensures { Replayed file.now
+) -> Result<Outcome, Refusal>
+    ensures replayed { Replayed file.now
         (tables blocks.old runs.old pairs.old routes.old totals.old)
-        answers.old answers.new result.count result.number result.at
+        answers.old answers.new (count_of result) (number_answered result) (at_of result)
         (tables blocks.new runs.new pairs.new routes.new totals.new) }
+    ensures refused { MatchResult result (λ o. 4096 ≤ length answers.old) (λ e. e ≡ WrongLengths) }
 {
     if answers.len() < 4096 {
-        return Outcome {
-            count: 0,
-            number: 1,
-            at: 0,
-        };
+        return Err(Refusal::WrongLengths);
     }
-    call_edits(file, blocks, runs, pairs, routes, totals, answers)
+    Ok(call_edits(file, blocks, runs, pairs, routes, totals, answers))
 }

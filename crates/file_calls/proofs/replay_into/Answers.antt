@@ -3,9 +3,3 @@ use Rattle.file_calls.proofs.replay_into.Goals as goal
 
 pub returns-then-end-ne2 : goal.returns-then-end-ne2
 returns-then-end-ne2 c = search no_end
-
-pub returns-then-outcome-eq1 : goal.returns-then-outcome-eq1
-returns-then-outcome-eq1 c = search no_room
-
-pub returns : goal.returns
-returns c = search replay_ends
