@@ -1,5 +1,5 @@
 -- What the exported read answers and leaves: numbers and words, where the reader under it answers a Result. Rule 30.
-use Rattle.std.specs.Prelude.{◌≡◌, Option, Some, None, Result, Ok, Err, List, [], ◌∷◌, ℕ, length}
+use Rattle.std.specs.Prelude.{◌≡◌, Option, Some, None, Ok, Err, List, [], ◌∷◌, ℕ, length}
 use Rattle.refusals.specs.declared.Refusal.{Refusal}
 use Rattle.refusals.specs.Numbers.{number_of}
 use Rattle.yardfile.specs.declared.Item.{Item}

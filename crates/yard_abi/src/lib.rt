@@ -16,6 +16,7 @@ ghost use Rattle.file_calls.specs.Reading.{ReadInto};
 ghost use Rattle.file_calls.specs.Replaying.{ReplayedInto};
 
 use geometry::Place;
+use refusals::answer;
 
 #[unsafe(no_mangle)]
 pub extern "C" fn yard_start(
@@ -28,7 +29,7 @@ pub extern "C" fn yard_start(
     ensures { Started (tables blocks.old runs.old pairs.old routes.old totals.old)
         result (tables blocks.new runs.new pairs.new routes.new totals.new) }
 {
-    yard::start(blocks, runs, pairs, routes, totals)
+    answer(yard::start(blocks, runs, pairs, routes, totals))
 }
 
 #[unsafe(no_mangle)]
@@ -45,7 +46,7 @@ pub extern "C" fn yard_add_block(
         (tables blocks.old runs.now pairs.old routes.old totals.old)
         result (tables blocks.new runs.now pairs.new routes.new totals.new) }
 {
-    block_edits::add_block(blocks, runs, pairs, routes, totals, number, corners)
+    answer(block_edits::add_block(blocks, runs, pairs, routes, totals, number, corners))
 }
 
 #[unsafe(no_mangle)]
@@ -61,7 +62,7 @@ pub extern "C" fn yard_remove_block(
         (tables blocks.old runs.now pairs.old routes.old totals.old)
         result (tables blocks.new runs.now pairs.new routes.new totals.new) }
 {
-    block_edits::remove_block(blocks, runs, pairs, routes, totals, number)
+    answer(block_edits::remove_block(blocks, runs, pairs, routes, totals, number))
 }
 
 #[unsafe(no_mangle)]
@@ -79,7 +80,7 @@ pub extern "C" fn yard_move_block(
         (tables blocks.old runs.now pairs.old routes.old totals.old)
         result (tables blocks.new runs.now pairs.new routes.new totals.new) }
 {
-    block_edits::move_block(blocks, runs, pairs, routes, totals, number, east, north)
+    answer(block_edits::move_block(blocks, runs, pairs, routes, totals, number, east, north))
 }
 
 #[unsafe(no_mangle)]
@@ -107,7 +108,7 @@ pub extern "C" fn yard_add_run(
         east: second_east,
         north: second_north,
     };
-    run_edits::add_run(blocks, runs, pairs, routes, totals, number, first, second)
+    answer(run_edits::add_run(blocks, runs, pairs, routes, totals, number, first, second))
 }
 
 #[unsafe(no_mangle)]
@@ -123,7 +124,7 @@ pub extern "C" fn yard_remove_run(
         (tables blocks.now runs.old pairs.old routes.old totals.old)
         result (tables blocks.now runs.new pairs.new routes.new totals.new) }
 {
-    run_edits::remove_run(blocks, runs, pairs, routes, totals, number)
+    answer(run_edits::remove_run(blocks, runs, pairs, routes, totals, number))
 }
 
 #[unsafe(no_mangle)]
@@ -151,7 +152,7 @@ pub extern "C" fn yard_move_run(
         east: second_east,
         north: second_north,
     };
-    run_edits::move_run(blocks, runs, pairs, routes, totals, number, first, second)
+    answer(run_edits::move_run(blocks, runs, pairs, routes, totals, number, first, second))
 }
 
 #[unsafe(no_mangle)]
@@ -167,7 +168,7 @@ pub extern "C" fn yard_set_charge(
         (tables blocks.now runs.old pairs.now routes.old totals.old)
         result (tables blocks.now runs.new pairs.now routes.new totals.new) }
 {
-    charge_edits::set_charge(blocks, runs, pairs, routes, totals, figure)
+    answer(charge_edits::set_charge(blocks, runs, pairs, routes, totals, figure))
 }
 
 #[unsafe(no_mangle)]
@@ -274,7 +275,7 @@ pub extern "C" fn yard_check(
 ) -> u32
     ensures { Checked (tables blocks.now runs.now pairs.now routes.now totals.now) result }
 {
-    yard::check(blocks, runs, pairs, routes, totals)
+    answer(yard::check(blocks, runs, pairs, routes, totals))
 }
 
 // The record of a yard file at a position, as four words: its kind, its number, where its fields start, and the position after it.
@@ -282,7 +283,7 @@ pub extern "C" fn yard_check(
 pub extern "C" fn yard_read(file: &[u8], at: usize, item: &mut [u64]) -> u32
     ensures { ReadInto file.now at item.old result item.new }
 {
-    file_calls::read_into(file, at, item)
+    answer(file_calls::read_into(file, at, item))
 }
 
 // The edits of a yard file, called in order up to its end or its stop; their answers, and two words: how many they are, and the position there.
@@ -302,7 +303,7 @@ pub extern "C" fn yard_replay(
         answers.old end.old result answers.new end.new
         (tables blocks.new runs.new pairs.new routes.new totals.new) }
 {
-    file_calls::replay_into(blocks, runs, pairs, routes, totals, file, answers, end)
+    answer(file_calls::replay_into(blocks, runs, pairs, routes, totals, file, answers, end))
 }
 
 #[unsafe(no_mangle)]
@@ -391,12 +392,12 @@ pub extern "C" fn yard_bend(
 pub extern "C" fn yard_file_shorten(file: &[u8], buffer: &mut [u8], size: &mut [u32]) -> u32
     ensures { ConvertedInto 1 2 file.now buffer.old buffer.new size.old size.new result }
 {
-    convert::shorten_into(file, buffer, size)
+    answer(convert::shorten_into(file, buffer, size))
 }
 
 #[unsafe(no_mangle)]
 pub extern "C" fn yard_file_lengthen(file: &[u8], buffer: &mut [u8], size: &mut [u32]) -> u32
     ensures { ConvertedInto 2 1 file.now buffer.old buffer.new size.old size.new result }
 {
-    convert::lengthen_into(file, buffer, size)
+    answer(convert::lengthen_into(file, buffer, size))
 }
