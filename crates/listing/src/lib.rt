@@ -1,19 +1,13 @@
 // The listing of a yard, put byte for byte into a buffer that the caller lends.
 #![tactic(auto)]
 
-ghost use Rattle.std.specs.Prelude.{◌≡◌, ◌++◌, ◌+◌, ◌*◌, ◌≤◌, min, length};
+ghost use Rattle.std.specs.Prelude.{◌≡◌, ◌++◌, ◌+◌, ◌*◌, ◌≤◌, length};
 ghost use Rattle.listing.specs.Lines.{bytes, decimal, labelled, edit_line, edit_lines, stop_line, mark_texts, way_text, run_line, run_lines, Listed};
 ghost use Rattle.listing.specs.inner.Put.{Put};
 
 // Room for every listing: a number has at most 20 digits, so that 4,096 edits have 54 bytes each, the stop 50, and
 // 24 runs 4,133 each.
 pub const ROOM: usize = 4096 * 54 + 50 + 24 * 4133;
-
-fn least(a: usize, b: usize) -> usize
-    ensures { result ≡ min a b }
-{
-    if a < b { a } else { b }
-}
 
 // Each function below puts bytes into the buffer from a place on, and answers where they end.
 fn put_text(out: &mut [u8], at: usize, text: &[u8]) -> usize
@@ -58,7 +52,8 @@ fn put_edit(out: &mut [u8], at: usize, count: usize, answer: u32) -> usize
     requires { at + 54 ≤ length out.old }
     ensures { Put 54 out.old at (edit_line count answer) out.new result }
 {
-    put_line(out, at, b"edit ", count as u64, b" answer ", answer as u64)
+    let answer = u64::from(answer);
+    put_line(out, at, b"edit ", count as u64, b" answer ", answer)
 }
 
 // The first answers, as many as the count says and there are.
@@ -67,12 +62,10 @@ fn put_edits(out: &mut [u8], answers: &[u32], count: usize) -> usize
     ensures { Put (54 * length answers.now) out.old 0
         (edit_lines answers.now count) out.new result }
 {
-    let n = least(count, answers.len());
+    let n = count.min(answers.len());
     let mut end = 0;
-    let mut i = 0;
-    while i < n {
+    for i in 0..n {
         end = put_edit(out, end, i + 1, answers[i]);
-        i += 1;
     }
     end
 }
@@ -85,14 +78,14 @@ fn put_stop(out: &mut [u8], at: usize, number: u32, place: usize) -> usize
     if number == 0 {
         return at;
     }
-    put_line(out, at, b"stop ", number as u64, b" at ", place as u64)
+    put_line(out, at, b"stop ", u64::from(number), b" at ", place as u64)
 }
 
 fn put_mark(out: &mut [u8], at: usize, mark: u32) -> usize
     requires { at + 21 ≤ length out.old }
     ensures { Put 21 out.old at (labelled " " mark) out.new result }
 {
-    put_labelled(out, at, b" ", mark as u64)
+    put_labelled(out, at, b" ", u64::from(mark))
 }
 
 // The marks of a route record, as many as its count says and it has room for.
@@ -100,12 +93,10 @@ fn put_marks(out: &mut [u8], at: usize, words: &[u32]) -> usize
     requires { (length words.now ≡ 197) × (at + 21 * 194 ≤ length out.old) }
     ensures { Put (21 * 194) out.old at (mark_texts words.now) out.new result }
 {
-    let n = least(words[2] as usize, 194);
+    let n = (words[2] as usize).min(194);
     let mut end = at;
-    let mut k = 0;
-    while k < n {
+    for k in 0..n {
         end = put_mark(out, end, words[3 + k]);
-        k += 1;
     }
     end
 }
@@ -114,7 +105,7 @@ fn put_way(out: &mut [u8], at: usize, words: &[u32]) -> usize
     requires { (length words.now ≡ 197) × (at + 4109 ≤ length out.old) }
     ensures { Put 4109 out.old at (way_text words.now) out.new result }
 {
-    let measured = put_labelled(out, at, b" length ", words[1] as u64);
+    let measured = put_labelled(out, at, b" length ", u64::from(words[1]));
     let started = put_text(out, measured, b" marks");
     let marked = put_marks(out, started, words);
     put_text(out, marked, b"\n")
@@ -141,12 +132,10 @@ fn put_runs(out: &mut [u8], at: usize, routes: &[u32]) -> usize
     ensures { Put (4133 * 24) out.old at (run_lines routes.now) out.new result }
 {
     let mut end = at;
-    let mut m = 0;
-    while m < 24 {
+    for m in 0..24 {
         let first = 197 * m;
         let past = first + 197;
         end = put_run(out, end, m, &routes[first..past]);
-        m += 1;
     }
     end
 }

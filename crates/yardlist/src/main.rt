@@ -18,7 +18,8 @@ fn print(file: &[u8], text: &mut [u8; ROOM]) -> usize
     let mut routes = [0u32; 4728];
     let mut totals = [0u32; 25];
     let mut answers = [0u32; 4096];
-    yard::start(&mut blocks, &mut runs, &mut pairs, &mut routes, &mut totals);
+    // the tables and the words for the answers have their sizes, so neither call is refused
+    let _ = yard::start(&mut blocks, &mut runs, &mut pairs, &mut routes, &mut totals);
     let outcome = replay::replay(
         file,
         &mut blocks,
@@ -28,14 +29,11 @@ fn print(file: &[u8], text: &mut [u8; ROOM]) -> usize
         &mut totals,
         &mut answers,
     );
-    listing::list(
-        text,
-        &answers,
-        outcome.count,
-        outcome.number,
-        outcome.at,
-        &routes,
-    )
+    let (count, number, at) = match outcome {
+        Ok(done) => (done.count, done.number(), done.at),
+        Err(refusal) => (0, refusal.number(), 0),
+    };
+    listing::list(text, &answers, count, number, at, &routes)
 }
 
 // Reads until the buffer is full, the input ends or a read fails: answers how many bytes were read.

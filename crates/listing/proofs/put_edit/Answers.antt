@@ -3,4 +3,4 @@ use Rattle.listing.proofs.put_edit.Goals as goal
 
 pub returns : goal.returns
 unfolding edit_line labelled
-returns c = c.put_line.ensures
+returns c = rw c.from-answer.ensures at c.put_line.ensures

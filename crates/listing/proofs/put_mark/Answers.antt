@@ -3,4 +3,4 @@ use Rattle.listing.proofs.put_mark.Goals as goal
 
 pub returns : goal.returns
 unfolding labelled
-returns c = c.put_labelled.ensures
+returns c = rw c.from.ensures at c.put_labelled.ensures

@@ -2,7 +2,6 @@ use mathlib.Core.Path.{◌≡◌, ap}
 use mathlib.Core.List.{List}
 use Prim.Native.Nat.{ℕ, ◌+◌, ◌-◌, ◌*◌}
 use native.Mathlib.Omega.{arith}
-use borrow.Author.Rules.{rules}
 use lib.ListN.{take, drop}
 use Rattle.tables.specs.Tables.{route_words}
 use Rattle.listing.specs.Lines.{run_line}
@@ -16,10 +15,10 @@ record_of routes m =
     ap (λ (n : ℕ). run_line m (take n (drop (197 * m) routes))) e
 
 pub loop-m-init : goal.loop-m-init
-loop-m-init c = (search rules, put_joined 4133 _ (omega arith))
+loop-m-init c = put_joined 4133 _ (omega arith)
 
 pub loop-m-preserved : goal.loop-m-preserved
-loop-m-preserved c = (search rules, put_next _ _ c.loop-m.invariant.1 (put_as (record_of _ _) c.put_run-end.ensures))
+loop-m-preserved c = put_next _ _ c.loop-m.invariant (put_as (record_of _ _) c.put_run-end.ensures)
 
 pub returns : goal.returns
-returns c = put_all 4133 _ _ _ (omega arith) (omega arith) c.loop-m.invariant.1
+returns c = put_all 4133 _ _ _ (omega arith) (omega arith) c.loop-m.invariant

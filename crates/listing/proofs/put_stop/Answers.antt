@@ -9,4 +9,4 @@ returns-then-number-eq0 c = put_loose (omega arith) (put_as (stop_none _ _ c.if-
 
 pub returns : goal.returns
 unfolding labelled
-returns c = put_as (stop_line_lem _ _ c.if-number-eq0.false) c.put_line.ensures
+returns c = put_as (stop_line_lem _ _ c.if-number-eq0.false) (rw c.from.ensures at c.put_line.ensures)

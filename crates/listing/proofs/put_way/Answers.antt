@@ -7,6 +7,6 @@ unfolding labelled way_text
 returns c =
     put_then
     (put_then
-    (put_then c.put_labelled-measured.ensures c.put_text-started.ensures)
+    (put_then (rw c.from.ensures at c.put_labelled-measured.ensures) c.put_text-started.ensures)
     c.put_marks-marked.ensures)
     c.put_text.ensures
