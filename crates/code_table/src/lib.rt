@@ -13,7 +13,7 @@ ghost use Rattle.codes.specs.inner.Codes.{CodesOf};
 ghost use Rattle.code_table.specs.inner.Lines.{LineOf, Slopes, Marks, mark_at, RowFrom, RowIs, PlacesOf};
 
 use geometry::{Place, corner, next};
-use lists::fill8;
+use lists::fill;
 use tables::place_of;
 
 // The line of a side: how far it goes east and north, and what `across` gives on it.
@@ -156,7 +156,7 @@ pub fn block_row(words: &[u16], places: &Places, row: &mut [u8])
 {
     let m = usize::from(words[0]);
     if m == 0 {
-        fill8(row, 255);
+        fill(row, 255);
         return;
     }
     last_row(words, m - 1, places, row);

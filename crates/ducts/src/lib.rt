@@ -17,7 +17,7 @@ ghost use Rattle.ducts.specs.inner.Written.{spot_words};
 
 use crossings::{Direction, crossing_at};
 use lines::lines_of;
-use lists::fill16;
+use lists::fill;
 use records::records_right;
 use refusals::Refusal;
 use tables::place_of;
@@ -147,7 +147,7 @@ fn quote_between(
 {
     let mut trail = [Direction::West; 4356];
     let found = find_path(blocks, xs, nx, ys, ny, start, end, crossings, &mut trail);
-    fill16(crossings, 0);
+    fill(crossings, 0);
     match found {
         Some(path) => {
             write_path(xs, ys, &trail, path.count, start, crossings);

@@ -117,7 +117,7 @@ pub fn route(blocks: &[u16], runs: &[u16], m: usize, part: &mut [u32])
     requires { (Sound (stored blocks.now runs.now)) × (m < 24) × (length part.old ≡ 197) }
     ensures { RouteIs (stored blocks.now runs.now) (ByPlaces (stored blocks.now runs.now)) m part.new }
 {
-    lists::fill32(part, 0);
+    lists::fill(part, 0);
     if runs[5 * m] == 0 {
         return;
     }

@@ -9,7 +9,7 @@ ghost use Rattle.sweeps.specs.inner.Keys.{key_at, lanes, leave, through, on_line
 
 use crossings::{Axis, Direction, neighbour};
 use lengths::apart;
-use lists::fill16;
+use lists::fill;
 
 // The key of crossing v.
 pub fn key_at(top: &[u16], low: &[u16], v: usize) -> u64
@@ -319,7 +319,7 @@ pub fn open_keys(end: usize, top: &mut [u16], low: &mut [u16])
     requires { (end < 4356) × (length top.old ≡ 4356) × (length low.old ≡ 8712) }
     ensures { Opened end top.new low.new }
 {
-    fill16(top, 65535);
-    fill16(low, 0);
+    fill(top, 65535);
+    fill(low, 0);
     top[end] = 0;
 }

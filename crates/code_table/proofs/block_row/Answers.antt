@@ -6,7 +6,7 @@ use Rattle.code_table.proofs.Rows.{row_absent, row_done}
 use Rattle.code_table.proofs.block_row.Goals as goal
 
 pub returns-then-m-eq0 : goal.returns-then-m-eq0
-returns-then-m-eq0 c = row_absent _ _ _ _ _ c.requires.2 c.fill8.ensures (sym c.from-m.ensures ∙ c.if-m-eq0.true)
+returns-then-m-eq0 c = row_absent _ _ _ _ _ c.requires.2 c.fill.ensures (sym c.from-m.ensures ∙ c.if-m-eq0.true)
 
 pub last_row-requires-clause-record : goal.last_row-requires-clause-record
 last_row-requires-clause-record c = (c.requires.0, omega arith)

@@ -5,4 +5,4 @@ pub returns-in-Some : goal.returns-in-Some
 returns-in-Some c = quote_found _ _ _ _ _ c.requires.lines.1 _ _ c.requires.ends.1 _ _ _ _ _ c.in-Some.ensures c.fill_quote.ensures c.write_path.ensures
 
 pub returns-in-None : goal.returns-in-None
-returns-in-None c = quote_none _ _ _ _ _ c.requires.lines.1 _ _ c.requires.ends.1 _ _ _ _ c.in-None.ensures c.fill_quote-in-None.ensures c.fill16.ensures
+returns-in-None c = quote_none _ _ _ _ _ c.requires.lines.1 _ _ c.requires.ends.1 _ _ _ _ c.in-None.ensures c.fill_quote-in-None.ensures c.fill.ensures

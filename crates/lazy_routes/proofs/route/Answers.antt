@@ -11,7 +11,7 @@ use Rattle.lazy_routes.proofs.Corners.{ends_listed, ends_same, searched_as}
 use Rattle.lazy_routes.proofs.route.Goals as goal
 
 pub returns-then-runs-m-eq0 : goal.returns-then-runs-m-eq0
-returns-then-runs-m-eq0 c = absent_record _ _ _ _ ((let h : c.fill32.new.list ≡ filled 197 0 = cleared _ c.requires.2 c.fill32.ensures in h)) c.if-runs-m-eq0.true
+returns-then-runs-m-eq0 c = absent_record _ _ _ _ ((let h : c.fill.new.list ≡ filled 197 0 = cleared _ c.requires.2 c.fill.ensures in h)) c.if-runs-m-eq0.true
 
 pub mark_near-requires : goal.mark_near-requires
 mark_near-requires c = (c.requires.0.fit.blocks, refl)
@@ -23,7 +23,7 @@ settle-requires c =
 pub walk-count-requires : goal.walk-count-requires
 walk-count-requires c =
     let t = searched_as (stored c.args.blocks.now c.args.runs.now) (ends_same c.list_corners-n.ensures c.args.m) c.settle.ensures in
-    record { sound = (c.requires.0, c.mark_near.ensures); m_bound = (c.requires.1, t.way c.if-settle.true, (let h : c.fill32.new.list ≡ filled 197 0 = cleared _ c.requires.2 c.fill32.ensures in h)) }
+    record { sound = (c.requires.0, c.mark_near.ensures); m_bound = (c.requires.1, t.way c.if-settle.true, (let h : c.fill.new.list ≡ filled 197 0 = cleared _ c.requires.2 c.fill.ensures in h)) }
 
 pub bounds-part-1 : goal.bounds-part-1
 bounds-part-1 c = simp length-set (omega arith)
@@ -41,4 +41,4 @@ returns-then-settle c =
 pub returns-else-settle : goal.returns-else-settle
 returns-else-settle c =
     let t = searched_as (stored c.args.blocks.now c.args.runs.now) (ends_same c.list_corners-n.ensures c.args.m) c.settle.ensures in
-    no_way_record _ _ _ _ ((let h : c.fill32.new.list ≡ filled 197 0 = cleared _ c.requires.2 c.fill32.ensures in h)) c.requires.0.fit c.requires.1 c.if-runs-m-eq0.false (t.no_way c.if-settle.false)
+    no_way_record _ _ _ _ ((let h : c.fill.new.list ≡ filled 197 0 = cleared _ c.requires.2 c.fill.ensures in h)) c.requires.0.fit c.requires.1 c.if-runs-m-eq0.false (t.no_way c.if-settle.false)
