@@ -3,7 +3,7 @@ use Prim.Native.Nat.{ℕ, ◌+◌, ◌*◌, ◌/◌, ◌^◌, ◌≤◌, ◌<◌
 use native.Mathlib.Omega.{arith}
 use native.Mathlib.Nat.{mul-le-mul}
 use native.Mathlib.Decide.{dec_le, dec_lt}
-use Rattle.lengths.specs.Length.{RootUp}
+use Rattle.lengths.specs.Length.{RootUp, gap}
 use Rattle.lengths.specs.inner.Roots.{Root}
 
 -- the order of squares
@@ -36,3 +36,7 @@ quarter_small n h k l = square_lt h (2 ^ 31) (omega (arith, k.below))
 
 pub quarter_square : (h : ℕ) → h < 2 ^ 31 → (2 * h + 1) * (2 * h + 1) < 2 ^ 64
 quarter_square h k = let i : 2 * h + 1 ≤ 4294967295 = omega arith in omega (arith, mul-le-mul i i)
+
+-- the square of how far apart two coordinates are
+pub gap_square_small : (a b : ℕ) → a < 2 ^ 16 → b < 2 ^ 16 → gap a b * gap a b ≤ 4294836225
+gap_square_small a b h k = let i : gap a b ≤ 65535 = omega arith in omega (arith, mul-le-mul i i)

@@ -80,6 +80,7 @@ pub fn apart(a: u16, b: u16) -> u64
 }
 
 // The square of how far apart they are, with no branch.
+#[tactic(auto, using(crate::proofs::Squares::gap_square_small))]
 fn square_apart(a: u16, b: u16) -> u64
     ensures value { result ≡ gap a b * gap a b }
     ensures small { result ≤ 4294836225 }
