@@ -29,11 +29,10 @@ fn print(file: &[u8], text: &mut [u8; ROOM]) -> usize
         &mut totals,
         &mut answers,
     );
-    let (count, number, at) = match outcome {
-        Ok(done) => (done.count, done.number(), done.at),
-        Err(refusal) => (0, refusal.number(), 0),
-    };
-    listing::list(text, &answers, count, number, at, &routes)
+    match outcome {
+        Ok(done) => listing::list(text, &answers, done.count, done.number(), done.at, &routes),
+        Err(refusal) => listing::list(text, &answers, 0, refusal.number(), 0, &routes),
+    }
 }
 
 // Reads until the buffer is full, the input ends or a read fails: answers how many bytes were read.
