@@ -20,7 +20,11 @@ pub fn unhidden_byte(blocks: &[u16], near: &[u8], a: Place, b: Place) -> u8
     requires ends { (InRange (point_of a)) × (InRange (point_of b)) × (Unhidden blocks.now (point_of a) (point_of b)) }
     ensures { StraightIs blocks.now (point_of a) (point_of b) result }
 {
-    if seams::shared(blocks, near, a, b) { 253 } else { 254 }
+    if seams::shared(blocks, near, a, b) {
+        253
+    } else {
+        254
+    }
 }
 
 // The byte of a straight between present marks at a and b.
