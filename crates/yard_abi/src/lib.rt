@@ -201,10 +201,10 @@ pub extern "C" fn yard_add_run_for(
         east: second_east,
         north: second_north,
     };
-    share_edits::add_run_for(
+    answer(share_edits::add_run_for(
         blocks, runs, pairs, routes, totals, holders, shares, ceilings, contractor, number, first,
         second,
-    )
+    ))
 }
 
 #[unsafe(no_mangle)]
@@ -224,9 +224,9 @@ pub extern "C" fn yard_remove_run_for(
         (tables blocks.now runs.old pairs.old routes.old totals.old) holders.old
         result (tables blocks.now runs.new pairs.new routes.new totals.new) holders.new }
 {
-    share_edits::remove_run_for(
+    answer(share_edits::remove_run_for(
         blocks, runs, pairs, routes, totals, holders, shares, ceilings, contractor, number,
-    )
+    ))
 }
 
 #[unsafe(no_mangle)]
@@ -259,10 +259,10 @@ pub extern "C" fn yard_move_run_for(
         east: second_east,
         north: second_north,
     };
-    share_edits::move_run_for(
+    answer(share_edits::move_run_for(
         blocks, runs, pairs, routes, totals, holders, shares, ceilings, contractor, number, first,
         second,
-    )
+    ))
 }
 
 #[unsafe(no_mangle)]
@@ -311,7 +311,7 @@ pub extern "C" fn yard_quote_route(blocks: &[u16], runs: &[u16], run: u32, route
     ensures { RouteQuoted (stored blocks.now runs.now) run
         route.old result route.new }
 {
-    counter::quote_route(blocks, runs, run, route)
+    answer(counter::quote_route(blocks, runs, run, route))
 }
 
 #[unsafe(no_mangle)]
@@ -329,9 +329,9 @@ pub extern "C" fn yard_quote_move(
     ensures { MoveQuoted (tables blocks.now runs.now pairs.now routes.now totals.now)
         number east north quote.old result quote.new }
 {
-    move_quotes::quote_move(
+    answer(move_quotes::quote_move(
         blocks, runs, pairs, routes, totals, number, east, north, quote,
-    )
+    ))
 }
 
 #[unsafe(no_mangle)]
@@ -345,7 +345,7 @@ pub extern "C" fn yard_quote_duct(
     ensures { DuctQuoted (stored blocks.now runs.now) run quote.old crossings.old
         result quote.new crossings.new }
 {
-    ducts::quote_duct(blocks, runs, run, quote, crossings)
+    answer(ducts::quote_duct(blocks, runs, run, quote, crossings))
 }
 
 #[unsafe(no_mangle)]
@@ -363,9 +363,9 @@ pub extern "C" fn yard_piece(
     ensures { PieceFilled (tables blocks.now runs.now pairs.now routes.now totals.now)
         run piece kind.old points.old result kind.new points.new }
 {
-    drawn_routes::fill_piece(
+    answer(drawn_routes::fill_piece(
         blocks, runs, pairs, routes, totals, run, piece, kind, points,
-    )
+    ))
 }
 
 #[unsafe(no_mangle)]
@@ -383,9 +383,9 @@ pub extern "C" fn yard_bend(
     ensures { BendFilled (tables blocks.now runs.now pairs.now routes.now totals.now)
         run piece kind.old points.old result kind.new points.new }
 {
-    drawn_routes::fill_bend(
+    answer(drawn_routes::fill_bend(
         blocks, runs, pairs, routes, totals, run, piece, kind, points,
-    )
+    ))
 }
 
 #[unsafe(no_mangle)]
