@@ -56,7 +56,7 @@ pub tally_none : (bs cs : List ℕ) → cs ≡ filled 256 0 → Tallied (take 0 
 unfolding filled count
 tally_none bs cs e = record { sized = rw e refl; each = λ b l. rw e (word_zeros 256 b) }
 
-pub zeros : replicate 256 0 ≡ filled 256 0
+pub zeros : replicate {A = ℕ} 256 0 ≡ filled 256 0
 unfolding filled
 zeros = refl
 

@@ -46,20 +46,20 @@ module _ {end : ℕ} {top low : List ℕ} (o : Opened end top low) (l : end < 43
   key_end : key_at top low end ≡ 0
   unfolding key_at
   key_end =
-      let t : word top end ≡ 0 = rw o.top_is (get_or-set_same (filled 4356 65535) end 0 0 (omega (arith, filled_size 4356 65535))) in
+      let t : word top end ≡ 0 = rw o.top_is (get_or-set_same (filled {A = ℕ} 4356 65535) end 0 0 (omega (arith, filled_size 4356 65535))) in
       omega (arith, t, low_none (2 * end) (omega arith), low_none (2 * end + 1) (omega arith))
 
   key_far : (v : ℕ) → v < 4356 → (v ≡ end → ⊥) → key_at top low v ≡ unreached
   unfolding key_at
   key_far v h n =
-      let t : word top v ≡ 65535 = rw o.top_is (get_or-set_other (filled 4356 65535) end v 0 0 n ∙ filled_word 4356 65535 v h) in
+      let t : word top v ≡ 65535 = rw o.top_is (get_or-set_other (filled {A = ℕ} 4356 65535) end v 0 0 n ∙ filled_word 4356 65535 v h) in
       omega (arith, t, low_none (2 * v) (omega arith), low_none (2 * v + 1) (omega arith))
 
   pub fair_start : {G : Net} → G.Stop end → Fair G end top low
   unfolding key_from
   fair_start {G} stop =
       record {
-        top_sized = ap length o.top_is ∙ length-set (filled 4356 65535) end 0 ∙ filled_size 4356 65535;
+        top_sized = ap length o.top_is ∙ length-set (filled {A = ℕ} 4356 65535) end 0 ∙ filled_size 4356 65535;
         low_sized = ap length o.low_is ∙ filled_size 8712 0;
         capped = λ v h. cap v h (ℕ_discrete v end);
         at_end = key_end;

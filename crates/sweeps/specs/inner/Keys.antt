@@ -113,5 +113,5 @@ pub record Searched (G : Net) (F : Lanes) (nx ny : ℕ) (top low : List ℕ) : T
 
 -- before it only the end is reached
 pub record Opened (end : ℕ) (top low : List ℕ) : Type 0 where
-  pub top_is : top ≡ set (filled 4356 65535) end 0
+  pub top_is : top ≡ set (filled {A = ℕ} 4356 65535) end 0
   pub low_is : low ≡ filled 8712 0
