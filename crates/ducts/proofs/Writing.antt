@@ -20,7 +20,7 @@ use Rattle.ducts.proofs.Visits.{visits_first, path_length, next_at_lem}
 pub move_is : (trail : List Direction) (i v r : ℕ) → r ≡ moved_by (code (get_or trail i West)) v → r ≡ moved_by (word (map code trail) i) v
 move_is trail i v r e = e ∙ ap (λ (d : ℕ). moved_by d v) (sym (get_or-map code trail i West))
 
-filled_length : (n : ℕ) → length (filled n 0) ≡ n
+filled_length : (n : ℕ) → length (filled {A = ℕ} n 0) ≡ n
 unfolding filled
 filled_length n = length-replicate n 0
 
