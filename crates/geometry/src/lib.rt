@@ -142,7 +142,8 @@ pub fn either(x: i64, y: i64) -> bool
 }
 
 // Whether a block record and a segment overlap along a coordinate, which the segment's ends have at p and q: east where i is 1,
-// north where it is 2.
+// north where it is 2. A part of its callers: blocks that lie far off are passed without a call.
+#[inline(always)]
 fn abreast(words: &[u16], i: usize, p: u16, q: u16) -> bool
     requires { (BoundedRecord words.now) × (i ≤ 2) }
     ensures { Tells (Across words.now i p q) result }
