@@ -2,7 +2,7 @@
  * The yard planner: blocks to keep clear of, and shortest conduit runs around them.
  *
  * The archive is for x86-64 with what its level v2 adds (SSE4.2, POPCNT), which no call looks for, and for its System V
- * calling convention (Linux). It calls memcpy and memset and nothing else.
+ * calling convention (Linux). It calls memcpy, memmove and memset and nothing else.
  *
  * The caller owns five tables, best in a struct yard, and lends them to every call but yard_read and the two that
  * convert a yard file, each as a pointer and a length in elements; the quote of a run is lent blocks and runs alone.
