@@ -4,6 +4,7 @@ use mathlib.Core.List.{List, [], ◌∷◌}
 use mathlib.Core.Bool.{Bool, true, false, ◌&&◌, not}
 use Prim.Native.Nat.{ℕ, ◌+◌, ◌*◌, ◌-◌, ◌/◌, ◌<◌, ◌≤◌}
 use native.Mathlib.Omega.{arith}
+use lib.Dec.{eqb}
 use lib.IntN.{ℤ}
 use lib.ListN.{length, take, drop}
 use mir.Syntax.{w16}
@@ -30,7 +31,7 @@ use Rattle.book.specs.Questions.{Question, ask, first_no, lengths_right, number_
 use Rattle.book.specs.Book.{Edit, add_block, remove_block, move_block, add_run, remove_run, move_run, set_charge, Book, free, questions}
 use Rattle.book.specs.inner.Named.{number_of, named}
 use Rattle.book.specs.Edits.{book_of, fitness, answer_over}
-use Rattle.book.proofs.Questions.{sized_of, lengths_yes, first_yes, first_more, Fitting, fitting}
+use Rattle.book.proofs.Questions.{sized_of, lengths_yes, lengths_no, first_yes, first_more, Fitting, fitting}
 use Rattle.book.proofs.Stored.{book_block, block_free, run_free}
 
 pub no_of : (t b : Bool) → t ≡ b → not t ≡ true → b ≡ false
@@ -53,6 +54,13 @@ not_none r e h z = some e (sym (passed r e _ h refl) ∙ z)
 
 -- ---- question 1
 module _ (b r p s t : List ℕ) where
+  pub routes_off : (length s ≡ 4728 → ⊥) → false ≡ lengths_right (tables b r p s t)
+  routes_off h = sym (lengths_no (tables b r p s t) (λ z. h z.routes))
+
+  pub totals_asked : length b ≡ 408 → length r ≡ 121 → length p ≡ 28680 → length s ≡ 4728 → eqb (length t) 25 ≡ lengths_right (tables b r p s t)
+  unfolding lengths_right
+  totals_asked eb er ep es = rw (eq-eqb _ _ eb, eq-eqb _ _ er, eq-eqb _ _ ep, eq-eqb _ _ es)
+
   module _ (u : Bool) (e : u ≡ lengths_right (tables b r p s t)) (y : not u ≡ false) where
     pub blocks_sized : length b ≡ 408
     blocks_sized = (sized_of (tables b r p s t) (yes_of u _ e y)).blocks

@@ -13,11 +13,11 @@ use Rattle.book.specs.History.{Calls, no_calls, call}
 use Rattle.yardfile.specs.declared.Item.{Item}
 use Rattle.std.proofs.Common.{Option, Some, None, Result, Ok, Err}
 use Rattle.refusals.specs.declared.Refusal.{Refusal}
-use Rattle.refusals.specs.Numbers.{number_of}
+use Rattle.refusals.specs.Numbers.{number_of, answer_of}
 use Rattle.yardfile.specs.File.{read_at}
 use Rattle.replay.specs.Replay.{Reads, at_end, at_stop, onward, stop_at, EditsCalled}
 use Rattle.fields.specs.Asked.{edit_of}
-use Rattle.replay.proofs.Taken.{taken}
+use Rattle.replay.proofs.Taken.{taken, ended}
 
 calls_more : {es : List Edit} {T T₁ T₂ : Tables} {rs : List ℕ} {e : Edit} {r : ℕ} → Calls es T rs T₁ → Called e T₁ r T₂ → Calls (es ++ (e ∷ [])) T (rs ++ (r ∷ [])) T₂
 calls_more no_calls c = call c no_calls
@@ -44,8 +44,12 @@ module _ (f : List ℕ) (T₀ : Tables) (old answers : List ℕ) (count at : ℕ
   ends : (n stop : ℕ) → Reads f at [] n stop → EditsCalled f T₀ old answers count n stop T
   ends n stop r = record { edits = g.edits; reads = rw (← (append-nil g.edits)) (g.rest [] n stop r); counted = g.counted; calls = g.calls; kept = g.kept }
 
-  pub going_end : read_at f at ≡ Ok None → EditsCalled f T₀ old answers count 0 at T
-  going_end e = ends 0 at (at_end e)
+  pub going_end : (x : Result (Option Item) Refusal) (n stop : ℕ) → ((i : Item) → x ≡ Ok (Some i) → ⊥) → x ≡ read_at f at → n ≡ answer_of x → stop ≡ stop_at n at
+      → EditsCalled f T₀ old answers count n stop T
+  going_end x n stop h e q s = rw (s, q) (ends (answer_of x) (stop_at (answer_of x) at) (ended f at x h (sym e)))
+
+  pub going_done : read_at f at ≡ Ok None → EditsCalled f T₀ old answers count 0 at T
+  going_done e = ends 0 at (at_end e)
 
   pub going_stop : (r : Refusal) (stop : ℕ) → read_at f at ≡ Err r → stop ≡ stop_at (number_of r) at → EditsCalled f T₀ old answers count (number_of r) stop T
   going_stop r stop e s = rw s (ends (number_of r) (stop_at (number_of r) at) (at_stop e))

@@ -11,7 +11,7 @@ use Rattle.yardfile.specs.declared.Item.{Item}
 use Rattle.std.proofs.Common.{Option, Some, None, Result, Ok, Err}
 use Rattle.refusals.specs.declared.Refusal.{Refusal}
 use Rattle.refusals.specs.declared.Refusal.TheVariants.{NoYardFile, BrokenRecord, CornerOffTheYard}
-use Rattle.refusals.specs.Numbers.{number_of}
+use Rattle.refusals.specs.Numbers.{number_of, answer_of}
 use Rattle.refusals.proofs.Numbers.{number_of_one}
 use Rattle.yardfile.specs.declared.Kind.{Kind}
 use Rattle.yardfile.specs.declared.Kind.TheVariants.{AddBlock, MoveBlock, AddRun, MoveRun, SetCharge}
@@ -75,6 +75,14 @@ taken_whole f at i t =
     inside k n e other m =
         let b : byte f at ≡ kind_byte k = kind_is k e in
         rw t.fields (omega (arith, t.fits, body_fields f at n (λ z. other (sym b ∙ z)) (rw b m)))
+
+-- a reading that found no record: the list of edits ends
+pub ended : (f : List ℕ) (at : ℕ) (x : Result (Option Item) Refusal) → ((i : Item) → x ≡ Ok (Some i) → ⊥) → read_at f at ≡ x
+    → Reads f at [] (answer_of x) (stop_at (answer_of x) at)
+unfolding stop_at
+ended f at (Ok (Some i)) h e = absurd (h i refl)
+ended f at (Ok None) h e = at_end e
+ended f at (Err r) h e = at_stop e
 
 -- the two positions of a stop
 stop_nine : (at : ℕ) → 0 ≡ stop_at 9 at

@@ -105,17 +105,11 @@ pub fn route(
     requires rows { (Rows blocks.now pairs.now adj.now 576) × (Places (stored blocks.now runs.now) places.now 240) }
     ensures { RouteIs (stored blocks.now runs.now) (ByBytes pairs.now) m part.new }
 {
-    lists::fill(part, 0);
+    lists::fill32(part, 0);
     if runs[5 * m] == 0 {
         return;
     }
-    let mut row = [0u64; 3];
-    search::near_row(blocks, pairs, 193 + 2 * m, &mut row);
-    let straights = ByPairs {
-        pairs,
-        adj,
-        row: &row,
-    };
+    let straights = ByPairs { pairs, adj };
     let mut key = [4000000000u32; 240];
     if settling::settle(blocks, runs, places, &straights, m, &mut key) {
         let n = walk(blocks, runs, pairs, m, &key, part);

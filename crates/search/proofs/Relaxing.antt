@@ -79,7 +79,7 @@ unfolding bit
 bit_one = omega arith
 
 -- a word's bits are those of the marks near s by it
-module _ {blocks pairs row : List ℕ} {s first : ℕ} (r : Row blocks pairs row s 3) {q w base : ℕ} (low : w < 2 ^ 64) (a : w ≡ near_word pairs row first s q) (b : base ≡ near_base first q) where
+module _ {blocks : List ℕ} (pairs row : List ℕ) {s first q : ℕ} (r : q < 3 → (i : ℕ) → i < 64 → Shows (Adjacent blocks pairs s (64 * q + i)) (bit i (word row q))) {w base : ℕ} (low : w < 2 ^ 64) (a : w ≡ near_word pairs row first s q) (b : base ≡ near_base first q) where
   pub marked_near : q < 4 → (v : ℕ) → Marked w base v → NearBy blocks (ByBytes pairs) s first q v
   marked_near l v m = elim (dec_lt q 3) [ yes h ↦ inl (in_row h) | no h ↦ let f = the_first h (ℕ_discrete (pair_byte pairs first s) 254) in inr (omega arith, f.0, f.1) ]
     where
@@ -89,7 +89,7 @@ module _ {blocks pairs row : List ℕ} {s first : ℕ} (r : Row blocks pairs row
           let i = bit_low 64 w m.at low m.set in
           let e : 64 * q + m.at ≡ v = omega (arith, m.is) in
           let x : bit m.at (word row q) ≡ 1 = ap (bit m.at) (row_word pairs row first s q h ∙ sym a) ∙ m.set in
-          (h, subst (Adjacent blocks pairs s) e ((r.each q h m.at i).yes' x), omega arith, omega arith)
+          (h, subst (Adjacent blocks pairs s) e ((r h m.at i).yes' x), omega arith, omega arith)
 
       the_first : (q < 3 → ⊥) → Dec (pair_byte pairs first s ≡ 254) → (v ≡ first) × (pair_byte pairs first s ≡ 254)
       the_first h (yes e) =
@@ -104,7 +104,7 @@ module _ {blocks pairs row : List ℕ} {s first : ℕ} (r : Row blocks pairs row
   near_marked v (inl n) =
       let k = row_base first q n.0 in
       let e : 64 * q + (v - 64 * q) ≡ v = omega (arith, n.2) in
-      let x = (r.each q n.0 (v - 64 * q) (omega (arith, n.2, n.3))).no' (subst (Adjacent blocks pairs s) (sym e) n.1) in
+      let x = (r n.0 (v - 64 * q) (omega (arith, n.2, n.3))).no' (subst (Adjacent blocks pairs s) (sym e) n.1) in
       record { at = v - 64 * q; is = omega (arith, n.2); set = ap (bit (v - 64 * q)) (a ∙ sym (row_word pairs row first s q n.0)) ∙ x }
   near_marked v (inr n) =
       let h : 3 ≤ q = omega (arith, n.0) in

@@ -2,7 +2,7 @@
 // and the relaxing of those that have a clear straight to a settled one. A key is 256 × cost + straights.
 #![tactic(auto)]
 
-ghost use Rattle.std.specs.Prelude.{◌≡◌, ◌⊎◌, List, ℕ, ◌+◌, ◌*◌, ◌<◌, ◌≤◌, min, length};
+ghost use Rattle.std.specs.Prelude.{◌≡◌, List, ℕ, ◌+◌, ◌*◌, ◌<◌, ◌≤◌, min, length};
 ghost use Rattle.geometry.specs.Words.{point_of, word, place_at};
 ghost use Rattle.tables.specs.Tables.{stored};
 ghost use Rattle.adjacency.specs.inner.Adjacent.{Rows};
@@ -264,18 +264,34 @@ pub trait Straights {
         ensures { NearWord blocks.now (clear self.now) first mark q result };
 }
 
-// Straights by the pair bytes, with the rows of all corners and that of the run's second end.
+// Straights by the pair bytes, with the row of one mark's near corners.
+#[derive(Clone, Copy)]
+pub struct ByRow<'a> {
+    pub pairs: &'a [u8],
+    pub row: &'a [u64],
+}
+
+impl<'a> Straights for ByRow<'a> {
+    ghost clear = { λ s. ByBytes s.pairs.now };
+
+    ghost told = { λ s blocks first mark. (length s.pairs.now ≡ 28680) × Row blocks s.pairs.now s.row.now mark 3 };
+
+    fn near(&self, _blocks: &[u16], first: usize, mark: usize, q: usize) -> u64 {
+        near_word(self.pairs, self.row, first, mark, q)
+    }
+}
+
+// Straights by the pair bytes, with the rows of all corners; the words of an end's row are made when they are asked for.
 #[derive(Clone, Copy)]
 pub struct ByPairs<'a> {
     pub pairs: &'a [u8],
     pub adj: &'a [u64],
-    pub row: &'a [u64],
 }
 
 impl<'a> Straights for ByPairs<'a> {
     ghost clear = { λ s. ByBytes s.pairs.now };
 
-    ghost told = { λ s blocks first mark. (length s.pairs.now ≡ 28680) × (((mark < 192) × Rows blocks s.pairs.now s.adj.now 576) ⊎ ((192 ≤ mark) × Row blocks s.pairs.now s.row.now mark 3)) };
+    ghost told = { λ s blocks first mark. (length blocks ≡ 408) × (length s.pairs.now ≡ 28680) × Rows blocks s.pairs.now s.adj.now 576 };
 
     fn near(&self, blocks: &[u16], first: usize, mark: usize, q: usize) -> u64 {
         if mark < 192 {
@@ -283,7 +299,10 @@ impl<'a> Straights for ByPairs<'a> {
             let to = from + 3;
             return near_word(self.pairs, &self.adj[from..to], first, mark, q);
         }
-        near_word(self.pairs, self.row, first, mark, q)
+        if q < 3 {
+            return adjacency::adjacent_word(blocks, self.pairs, mark, q);
+        }
+        near_word(self.pairs, &[0; 3], first, mark, q)
     }
 }
 

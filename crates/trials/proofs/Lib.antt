@@ -7,3 +7,4 @@ pub mod Search
 pub mod Ways
 pub mod Yards
 pub mod Trials
+pub mod Passed

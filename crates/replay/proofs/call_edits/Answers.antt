@@ -1,5 +1,5 @@
 use Rattle.replay.proofs.Taken.{taken, taken_whole}
-use Rattle.replay.proofs.Going.{going_none, going_end, going_stop, going_room, going_on, going_next, read_is}
+use Rattle.replay.proofs.Going.{going_none, going_done, going_stop, going_room, going_on, going_next, read_is}
 use mathlib.Core.Path.{refl, sym, ◌∙◌}
 use native.Mathlib.Omega.{arith}
 use borrow.Author.Rules.{rules}
@@ -9,7 +9,7 @@ pub loop-item-init : goal.loop-item-init
 loop-item-init c = (going_none _ _ _, refl, refl, refl, refl, refl)
 
 pub returns-in-Ok-None : goal.returns-in-Ok-None
-returns-in-Ok-None c = going_end _ _ _ _ _ _ _ c.loop-item.invariant.0 (read_is _ _ _ _ _ c.read_from.ensures c.in-Ok-None.is c.in-Ok-None.field-0-is)
+returns-in-Ok-None c = going_done _ _ _ _ _ _ _ c.loop-item.invariant.0 (read_is _ _ _ _ _ c.read_from.ensures c.in-Ok-None.is c.in-Ok-None.field-0-is)
 
 pub returns-in-Err : goal.returns-in-Err
 returns-in-Err c = going_stop _ _ _ _ _ _ _ c.loop-item.invariant.0 _ _ (sym c.read_from.ensures ∙ c.in-Err.is) c.stop_position.ensures
