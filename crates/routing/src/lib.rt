@@ -105,7 +105,7 @@ pub fn route(
     requires rows { (Rows blocks.now pairs.now adj.now 576) × (Places (stored blocks.now runs.now) places.now 240) }
     ensures { RouteIs (stored blocks.now runs.now) (ByBytes pairs.now) m part.new }
 {
-    lists::fill32(part, 0);
+    lists::fill(part, 0);
     if runs[5 * m] == 0 {
         return;
     }

@@ -7,7 +7,7 @@ use Rattle.routing.proofs.Written.{cleared, absent_record, no_way_record, found_
 use Rattle.routing.proofs.route.Goals as goal
 
 pub returns-then-runs-m-eq0 : goal.returns-then-runs-m-eq0
-returns-then-runs-m-eq0 c = absent_record _ _ _ _ (cleared _ c.requires.fit.3 c.fill32.ensures) c.if-runs-m-eq0.true
+returns-then-runs-m-eq0 c = absent_record _ _ _ _ (cleared _ c.requires.fit.3 c.fill.ensures) c.if-runs-m-eq0.true
 
 pub settle-requires : goal.settle-requires
 settle-requires c =
@@ -21,7 +21,7 @@ settle-requires c =
     }
 
 pub walk-n-requires : goal.walk-n-requires
-walk-n-requires c = record { searchable = record { fit = c.requires.fit.0; sized = c.requires.fit.1 }; m_bound = (c.requires.fit.2, c.settle.ensures.way c.if-settle.true, (cleared _ c.requires.fit.3 c.fill32.ensures)) }
+walk-n-requires c = record { searchable = record { fit = c.requires.fit.0; sized = c.requires.fit.1 }; m_bound = (c.requires.fit.2, c.settle.ensures.way c.if-settle.true, (cleared _ c.requires.fit.3 c.fill.ensures)) }
 
 pub bounds-part-1 : goal.bounds-part-1
 bounds-part-1 c = simp length-set (omega arith)
@@ -36,4 +36,4 @@ pub returns-then-settle : goal.returns-then-settle
 returns-then-settle c = found_record _ _ _ _ _ _ c.requires.fit.0 c.requires.fit.2 c.if-runs-m-eq0.false c.walk-n.ensures
 
 pub returns-else-settle : goal.returns-else-settle
-returns-else-settle c = no_way_record _ _ _ _ (cleared _ c.requires.fit.3 c.fill32.ensures) c.requires.fit.0 c.requires.fit.2 c.if-runs-m-eq0.false (c.settle.ensures.no_way c.if-settle.false)
+returns-else-settle c = no_way_record _ _ _ _ (cleared _ c.requires.fit.3 c.fill.ensures) c.requires.fit.0 c.requires.fit.2 c.if-runs-m-eq0.false (c.settle.ensures.no_way c.if-settle.false)
