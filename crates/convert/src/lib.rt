@@ -73,10 +73,8 @@ fn convert_into(
             words[0] = size as u32;
             Ok(())
         }
+        Err(Refusal::WrongLengths) => Err(Refusal::WrongLengths),
         Err(refusal) => {
-            if let Refusal::WrongLengths = refusal {
-                return Err(refusal);
-            }
             words[0] = 0;
             Err(refusal)
         }

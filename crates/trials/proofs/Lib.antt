@@ -8,3 +8,4 @@ pub mod Ways
 pub mod Yards
 pub mod Trials
 pub mod Passed
+pub mod Outcomes

@@ -1,7 +1,5 @@
 use Rattle.std.proofs.Common.{arith}
 use Rattle.convert.proofs.Outcomes.{into_wrong, size_small, into_done, word_set}
-use Rattle.refusals.specs.declared.Refusal.TheVariants.{WrongLengths}
-use Rattle.refusals.proofs.Numbers.{number_of_one}
 use Rattle.convert.proofs.convert_into.Goals as goal
 
 pub returns-then-words-ne1 : goal.returns-then-words-ne1
@@ -12,8 +10,3 @@ overflow_cast-words c = omega (arith, size_small _ _ _ _ c.args.words.now _ _ _ 
 
 pub returns-in-Ok : goal.returns-in-Ok
 returns-in-Ok c = into_done _ _ _ _ _ _ _ _ c.in-Ok.ensures _ c.if-words-ne1.false (λ e. absurd (omega arith)) (λ e. word_set _ _ c.if-words-ne1.false)
-
-pub returns-in_default : goal.returns-in_default
-returns-in_default c =
-    into_done _ _ _ _ _ _ _ _ c.in-Err.ensures _ c.if-words-ne1.false (λ e. absurd (c.in_default.not-WrongLengths (number_of_one _ WrongLengths e)))
-    (λ e. word_set _ _ c.if-words-ne1.false)
