@@ -116,7 +116,7 @@ none_between P from l n f g k lo hi h = elim (dec_lt k l) [ yes r ↦ f k lo r h
 first_below : {blocks : List ℕ} {from to : ℕ} {a b : Point} {n m : ℕ} → FirstIs blocks from to a b n → FirstIs blocks from to a b m → n < m → ⊥
 first_below {n} f g l = g.passed n f.after l f.found
 
-first_unique : (blocks : List ℕ) (from to : ℕ) (a b : Point) (n m : Option ℕ) → FirstOverlapping blocks from to a b n → FirstOverlapping blocks from to a b m → n ≡ m
+pub first_unique : (blocks : List ℕ) (from to : ℕ) (a b : Point) (n m : Option ℕ) → FirstOverlapping blocks from to a b n → FirstOverlapping blocks from to a b m → n ≡ m
 first_unique blocks from to a b (Some n) (Some m) f g =
     elim (dec_lt n m) [
       | yes l ↦ absurd (first_below f g l)

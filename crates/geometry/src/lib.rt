@@ -232,7 +232,9 @@ fn all_left(words: &[u16], k: usize) -> bool
     true
 }
 
-// Question 8 of a block record.
+// Question 8 of a block record. Kept apart: in a caller that tests the count first the compiler writes out all eight rounds,
+// which takes longer.
+#[inline(never)]
 pub fn is_convex(words: &[u16]) -> bool
     requires { BoundedRecord words.now }
     ensures { result ≡ convex (corners words.now) }
