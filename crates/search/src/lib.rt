@@ -60,6 +60,7 @@ fn open_corners(blocks: &[u16], list: &mut Waiting) -> usize
     requires { (length blocks.now ≡ 408) }
     ensures corners { Corners blocks.now list.new.order list.new.spot 192 result }
     ensures sums { length list.new.sums ≡ 194 }
+    ensures kept { list.new.sums ≡ list.old.sums }
 {
     let mut n = 0;
     for i in 0..192 {
@@ -77,6 +78,7 @@ pub fn list_bends(blocks: &[u16], first: usize, list: &mut Waiting) -> usize
     requires { (length blocks.now ≡ 408) × (192 ≤ first) × (first < 240) }
     ensures ranked { Ranked blocks.now first list.new.order list.new.spot result }
     ensures sums { length list.new.sums ≡ 194 }
+    ensures kept { list.new.sums ≡ list.old.sums }
 {
     let corners = open_corners(blocks, list);
     list.order[corners] = first as u16;

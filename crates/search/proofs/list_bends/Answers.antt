@@ -1,5 +1,5 @@
 use Rattle.search.proofs.Steps.{corners_ranked}
 use Rattle.search.proofs.list_bends.Goals as goal
 
-pub returns : goal.returns
-returns c = record { ranked = search corners_ranked; sums = c.open_corners-corners.ensures.sums }
+pub returns-clause-ranked : goal.returns-clause-ranked
+returns-clause-ranked c = search corners_ranked
