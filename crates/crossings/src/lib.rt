@@ -128,7 +128,7 @@ pub fn chart(blocks: &[u16], xs: &[u16], nx: usize, ys: &[u16], ny: usize, steps
     }
 }
 
-// The crossing west of v where the step there is clear; the next three are alike.
+// Where the step west of v leads, by the table; the next three are alike. None stands for 4,356; a table that no chart made may lead past it.
 #[tactic(auto, unfolding(crate::specs::inner::Charts::west_of))]
 pub fn west(steps: &[u8], v: usize) -> Option<usize>
     requires { (length steps.now ≡ 4356) × (v < 4356) }
@@ -167,13 +167,13 @@ pub fn east(steps: &[u8], v: usize) -> Option<usize>
     requires { (length steps.now ≡ 4356) × (v < 4356) }
     ensures { Target result (east_of steps.now v) }
 {
-    if v < 4290 && steps[v] / 2 == 1 {
+    if v != 4290 && steps[v] / 2 == 1 {
         return Some(v + 66);
     }
     None
 }
 
-// The crossing that a clear step in a direction leads to.
+// Where the step in a direction leads, by the table.
 #[tactic(auto, unfolding(crate::specs::inner::Charts::step_of))]
 pub fn neighbour(steps: &[u8], d: Direction, v: usize) -> Option<usize>
     requires { (length steps.now ≡ 4356) × (v < 4356) }

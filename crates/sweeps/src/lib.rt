@@ -106,8 +106,8 @@ fn through(steps: &[u8], d: Direction, v: usize, w: u64, c: u64) -> u64
     ensures { result ≡ through steps.now (code d) v w c }
 {
     match neighbour(steps, d, v) {
-        Some(_) => 65536 * w + c,
-        None => 281470681743360,
+        Some(u) if u < 4356 => 65536 * w + c,
+        _ => 281470681743360,
     }
 }
 

@@ -5,7 +5,7 @@ use lib.ListN.{get_or}
 use Rattle.std.specs.Prelude.{Option, None, Some}
 use Rattle.crossings.specs.declared.Axis.{Axis}
 use Rattle.crossings.specs.declared.Axis.TheVariants.{NorthSouth, EastWest}
-use Rattle.crossings.specs.declared.Direction.TheVariants.{West, South, North}
+use Rattle.crossings.specs.declared.Direction.{Direction}
 use Rattle.crossings.specs.inner.Directions.{code}
 use Prim.Native.Nat.{ℕ, zero, suc, ◌+◌, ◌*◌, ◌≤◌, ◌<◌}
 use native.Mathlib.Omega.{arith}
@@ -28,11 +28,11 @@ rank (north e f) = (omega arith, omega arith)
 rank (east e) = (omega arith, omega arith)
 
 -- the order in which they are tried
-pub in_order : {i : ℕ} → i < 3 → code (get_or (West ∷ South ∷ North ∷ []) i West) ≡ i
-in_order {i = zero} l = refl
-in_order {i = suc zero} l = refl
-in_order {i = suc (suc zero)} l = refl
-in_order {i = suc (suc (suc i))} l = absurd (omega arith)
+pub in_order : (a b c x : Direction) (i : ℕ) → i < 3 → code a ≡ 0 → code b ≡ 1 → code c ≡ 2 → code (get_or (a ∷ b ∷ c ∷ []) i x) ≡ i
+in_order a b c x zero l p q r = p
+in_order a b c x (suc zero) l p q r = q
+in_order a b c x (suc (suc zero)) l p q r = r
+in_order a b c x (suc (suc (suc i))) l p q r = absurd (omega arith)
 
 pub before_small : (b : Option Axis) → before_code b ≤ 2
 before_small None = omega arith

@@ -1,4 +1,4 @@
-// The walk by the labels: the best path between two crossings, its steps kept a byte each.
+// The walk by the labels: the best path between two crossings, its steps kept as directions.
 #![tactic(auto)]
 
 ghost use Rattle.std.specs.Prelude.{◌≡◌, ◌+◌, ◌*◌, ◌/◌, ◌%◌, ◌<◌, ◌≤◌, length, map};
@@ -122,12 +122,14 @@ fn leads(
         (label_at (lanes xs.now ys.now steps.now end) nx (key_at top.now low.now))
         v (step_of steps.now (code d) v) (axis_by (code d)) (before_code before) key) result }
 {
-    let Some(u) = neighbour(steps, d, v) else {
-        return false;
-    };
-    let axis = d.axis();
-    let on = label(xs, nx, ys, steps, end, top, low, Some(axis), u);
-    key == 65536 * span(xs, ys, v, u) + on + turn_key(before, axis)
+    match neighbour(steps, d, v) {
+        Some(u) if u < 4356 => {
+            let axis = d.axis();
+            let on = label(xs, nx, ys, steps, end, top, low, Some(axis), u);
+            key == 65536 * span(xs, ys, v, u) + on + turn_key(before, axis)
+        }
+        _ => false,
+    }
 }
 
 // The direction of the lowest crossing after v, which a step along an axis led to, by the labels.

@@ -1,10 +1,10 @@
--- How the best path is kept: its steps, a byte each.
+-- How the best path is kept: its steps, by the number of each one's direction.
 use Rattle.std.specs.Prelude.{◌≡◌, cond, List, [], ◌∷◌, ℕ, ◌+◌, ◌-◌, ◌≤◌, ◌<◌, eqb, length, take, Option, MatchOption}
 use Rattle.geometry.specs.Words.{word}
 use Rattle.walks.specs.declared.Found.{Found}
 use Rattle.nets.specs.Net.{Net, cost, IsBest, NoPath}
 
--- a step as one byte: 0 west, 1 south, 2 north, 3 east
+-- the crossing that a step by its direction's number leads to: 0 west, 1 south, 2 north, 3 east
 unfoldable pub moved_by : ℕ → ℕ → ℕ
 moved_by d v = cond (eqb d 0) (v - 66) (cond (eqb d 1) (v - 1) (cond (eqb d 2) (v + 1) (v + 66)))
 
