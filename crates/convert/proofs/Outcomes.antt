@@ -5,13 +5,14 @@ use mathlib.Core.Bool.{true}
 use Prim.Native.Nat.{ℕ, ◌-◌, ◌≤◌}
 use native.Mathlib.Omega.{arith}
 use native.Mathlib.Decide.{ℕ_discrete}
-use lib.ListN.{length, set, take, replicate, length-take}
+use lib.ListN.{length, take, replicate, length-take}
 use borrow.Author.Tests.{eq-eqb, ne_eqb}
 use Rattle.yardfile.proofs.Cases.{head_pieces}
 use Rattle.file_records.specs.Conversions.{converted, answer}
 use Rattle.file_records.specs.inner.Asked.{everyone}
 use Rattle.file_records.proofs.Trip.{Accepted, accepted}
 use Rattle.convert.specs.Convert.{padded, Converted, ConvertedInto}
+use Rattle.convert.specs.inner.Put.{SizePut}
 
 module _ (v w : ℕ) (f old : List ℕ) where
   pub refused_one : (length old ≡ 8192 → ⊥) → Converted v w f old old 1 0
@@ -69,17 +70,13 @@ module _ (v w : ℕ) (f old before : List ℕ) where
         go (yes z) = omega (arith, (c.done z).0, (accepted v w f (sized (ℕ_discrete (length old) 8192) z)).short)
         go (no z) = omega (arith, (c.refused z).0)
 
-    pub into_done : (after : List ℕ) → length before ≡ 1 → (n ≡ 1 → after ≡ before) → ((n ≡ 1 → ⊥) → after ≡ size ∷ []) → ConvertedInto v w f old new before after n
-    into_done after l kept put =
-        record {
+    pub into_done : (after : List ℕ) (m : ℕ) → length before ≡ 1 → (m ≡ n) × SizePut n size before after → ConvertedInto v w f old new before after m
+    into_done after m l q =
+        let p = q.1 in
+        rw q.0
+        (record {
           answered = rw (eq-eqb (length before) 1 l) c.answered;
-          done = λ z. (put (λ e. omega arith) ∙ ap (λ (x : ℕ). x ∷ []) (c.done z).0, (c.done z).1);
-          wrong = λ e. (kept e, (c.refused (λ z. omega arith)).1);
-          refused = λ z k. (put k ∙ ap (λ (x : ℕ). x ∷ []) (c.refused z).0, (c.refused z).1);
-        }
-
--- the one lent word
-pub word_set : (ws : List ℕ) (a : ℕ) → length ws ≡ 1 → set ws 0 a ≡ a ∷ []
-word_set [] a l = absurd (omega arith)
-word_set (x ∷ []) a l = refl
-word_set (x ∷ y ∷ ws) a l = absurd (omega arith)
+          done = λ z. (p.put (λ e. omega arith) ∙ ap (λ (x : ℕ). x ∷ []) (c.done z).0, (c.done z).1);
+          wrong = λ e. (p.kept e, (c.refused (λ z. omega arith)).1);
+          refused = λ z k. (p.put k ∙ ap (λ (x : ℕ). x ∷ []) (c.refused z).0, (c.refused z).1);
+        })

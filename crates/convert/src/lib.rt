@@ -5,6 +5,7 @@ ghost use Rattle.std.specs.Prelude.{◌≡◌, ◌++◌, true, ◌-◌, ◌≤�
 ghost use Rattle.file_records.specs.Conversions.{converted};
 ghost use Rattle.file_records.specs.inner.Asked.{everyone};
 ghost use Rattle.convert.specs.Convert.{Converted, ConvertedInto, size_of};
+ghost use Rattle.convert.specs.inner.Put.{SizePut};
 ghost use Rattle.refusals.specs.Numbers.{answer_of};
 
 use file_questions::first_failing;
@@ -55,20 +56,12 @@ pub fn lengthen(file: &[u8], buffer: &mut [u8]) -> Result<usize, Refusal>
     convert(file, 2, 1, buffer)
 }
 
-// Converts, and stores the length of the result, unless a list had not its size.
-fn convert_into(
-    file: &[u8],
-    source: u8,
-    target: u8,
-    buffer: &mut [u8],
-    words: &mut [u32],
-) -> Result<(), Refusal>
-    ensures { ConvertedInto source target file.now buffer.old buffer.new words.old words.new (answer_of result) }
+// Stores the length of a result, or 0 where the conversion is refused, unless a list had not its size.
+fn put_size(words: &mut [u32], outcome: Result<usize, Refusal>) -> Result<(), Refusal>
+    requires { (length words.old ≡ 1) × (size_of outcome ≤ 8192) }
+    ensures { (answer_of result ≡ answer_of outcome) × SizePut (answer_of outcome) (size_of outcome) words.old words.new }
 {
-    if words.len() != 1 {
-        return Err(Refusal::WrongLengths);
-    }
-    match convert(file, source, target, buffer) {
+    match outcome {
         Ok(size) => {
             words[0] = size as u32;
             Ok(())
@@ -85,12 +78,20 @@ fn convert_into(
 pub fn shorten_into(file: &[u8], buffer: &mut [u8], words: &mut [u32]) -> Result<(), Refusal>
     ensures { ConvertedInto 1 2 file.now buffer.old buffer.new words.old words.new (answer_of result) }
 {
-    convert_into(file, 1, 2, buffer, words)
+    if words.len() != 1 {
+        return Err(Refusal::WrongLengths);
+    }
+    let outcome = shorten(file, buffer);
+    put_size(words, outcome)
 }
 
 // Lengthens, and stores the length of the result.
 pub fn lengthen_into(file: &[u8], buffer: &mut [u8], words: &mut [u32]) -> Result<(), Refusal>
     ensures { ConvertedInto 2 1 file.now buffer.old buffer.new words.old words.new (answer_of result) }
 {
-    convert_into(file, 2, 1, buffer, words)
+    if words.len() != 1 {
+        return Err(Refusal::WrongLengths);
+    }
+    let outcome = lengthen(file, buffer);
+    put_size(words, outcome)
 }
