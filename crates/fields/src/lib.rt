@@ -43,8 +43,8 @@ pub fn add_block_at(
         (tables blocks.old runs.old pairs.old routes.old totals.old)
         (answer_of result) (tables blocks.new runs.new pairs.new routes.new totals.new) }
 {
-    let mut room = [0u16; 510];
-    let words = corner_words(file, at, &mut room);
+    let corners = corner_words(file, at);
+    let words = corners.words();
     add_block(blocks, runs, pairs, routes, totals, number, words)
 }
 

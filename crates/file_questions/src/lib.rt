@@ -50,8 +50,8 @@ fn passes(file: &[u8], at: usize, question: Question) -> bool
     if byte_at(file, at) != 1 {
         return true;
     }
-    let mut room = [0u16; 510];
-    let words = corner_words(file, at + 2, &mut room);
+    let corners = corner_words(file, at + 2);
+    let words = corners.words();
     if let Question::Near = question {
         return near(words);
     }

@@ -15,8 +15,10 @@ use Rattle.std.specs.List.{AllWithin, HoldsAt}
 use Rattle.std.proofs.Common.{length-append, length-drop}
 use Rattle.std.proofs.lemmas.List.{take-append-le, nil_from_length}
 use borrow.Author.Tests.{eqb-true}
+use borrow.Rule.Slice.PartMut.{put_mid}
+use Rattle.std.proofs.lemmas.Slice.{take-put_mid}
 use Rattle.std.proofs.lemmas.Int.{of_z-to_z}
-use lib.ListN.{length, get_or, set, take, drop, length-set}
+use lib.ListN.{length, get_or, set, take, drop, length-set, length-take}
 use lib.Seq.{take_all, get_or-set_same, get_or-set_other, ext_get_or, get_or-take, length-take-le, take-suc-set, append_snoc}
 use borrow.Author.Tests.{lt-ltb, le-ltb, le-leb, lt-leb, eq-eqb, ne_eqb}
 use Rattle.lists.proofs.Every.{every_yes, every_no}
@@ -190,6 +192,9 @@ inside_when ws false (k, l, h) = sym (every_no (λ w. leb w 32767) ws k 0 l (lt-
 pub room_part : (b : ℕ) (room : List ℕ) → length room ≡ 510 → b < 256 → length (take (2 * b) room) ≡ 2 * b
 room_part b room e h = length-take-le (2 * b) room (omega arith)
 
+pub room_count : (n b : ℕ) (room : List ℕ) → length room ≡ 510 → n < 256 → n ≡ b → length (take (2 * n) room) ≡ 2 * b
+room_count n b room l h e = room_part n room l h ∙ omega (arith, e)
+
 pub room_some : (b : ℕ) (part : List ℕ) (t : Bool) → length part ≡ 2 * b → t ≡ eqb (length part) 0 → t ≡ false → 2 * b ≡ 0 → ⊥
 room_some b part t s e h z = let q : true ≡ false = sym (eq-eqb (length part) 0 (s ∙ z)) ∙ (sym e ∙ h) in cc
 
@@ -224,3 +229,9 @@ corners_length f at = go (ℕ_discrete (byte f 3) 1) (ℕ_discrete (byte f at) 0
 
 pub corners_count : (f : List ℕ) (at b : ℕ) (ws : List ℕ) → b ≡ byte f at → take (2 * byte f at) ws ≡ corner_words f at → 2 * b ≡ length (take (2 * b) ws)
 corners_count f at b ws e q = rw e (sym (ap length q ∙ corners_length f at))
+
+pub corners_back : (f : List ℕ) (at k : ℕ) (room part : List ℕ) → part ≡ corner_words f at → take (2 * byte f at) (put_mid 0 k room part) ≡ corner_words f at
+corners_back f at k room part h = take-put_mid 0 k room part (2 * byte f at) (omega (arith, ap length h, corners_length f at)) (omega arith) ∙ h
+
+pub corners_held : (f : List ℕ) (at n : ℕ) (room : List ℕ) → n ≡ 2 * byte f at → take (2 * byte f at) room ≡ corner_words f at → n ≤ length room
+corners_held f at n room e h = omega (arith, length-take (2 * byte f at) room, ap length h, corners_length f at)

@@ -68,19 +68,58 @@ fn put_steps(file: &[u8], at: usize, words: &mut [u16])
     }
 }
 
-// The words of the corners whose count stands at a position, put into the room that is lent.
-pub fn corner_words<'a>(file: &[u8], at: usize, room: &'a mut [u16; 510]) -> &'a [u16]
-    requires { (at + block_size (byte file.now 3) (byte file.now at) ≤ length file.now) × (length file.now ≤ 8192) }
-    ensures { result.now ≡ corner_words file.now at }
+// The words of a block's corners: the first ones of the room for 510.
+#[derive(Clone, Copy)]
+pub struct CornerWords {
+    pub room: [u16; 510],
+    pub count: usize,
+    ghost within: { count ≤ length room },
+}
+
+impl CornerWords {
+    // These words alone.
+    pub fn words(&self) -> &[u16]
+        ensures { result.now ≡ take self.now.count self.now.room }
+    {
+        &self.room[..self.count]
+    }
+}
+
+// Fills words with those of the corners whose count stands at a position.
+fn fill_corners(file: &[u8], at: usize, words: &mut [u16])
+    requires { (at + block_size (byte file.now 3) (byte file.now at) ≤ length file.now) × (length file.now ≤ 8192)
+        × (length words.old ≡ 2 * byte file.now at) }
+    ensures { words.new ≡ corner_words file.now at }
 {
-    let words = &mut room[..2 * usize::from(byte_at(file, at))];
     if byte_at(file, 3) == 1 {
         fill_fields(file, at + 1, words);
     } else if !words.is_empty() {
         fill_fields(file, at + 1, &mut words[..2]);
         put_steps(file, at + 5, words);
     }
-    words
+}
+
+// Fills the front of the room with these words.
+fn fill_room(file: &[u8], at: usize, room: &mut [u16; 510])
+    requires { (at + block_size (byte file.now 3) (byte file.now at) ≤ length file.now) × (length file.now ≤ 8192) }
+    ensures { take (2 * byte file.now at) room.new ≡ corner_words file.now at }
+{
+    let count = 2 * usize::from(byte_at(file, at));
+    fill_corners(file, at, &mut room[..count]);
+}
+
+// The words of the corners whose count stands at a position. A part of its callers, so that the room is made where they use it.
+#[inline(always)]
+pub fn corner_words(file: &[u8], at: usize) -> CornerWords
+    requires { (at + block_size (byte file.now 3) (byte file.now at) ≤ length file.now) × (length file.now ≤ 8192) }
+    ensures { (result.count ≡ 2 * byte file.now at) × (take result.count result.room ≡ corner_words file.now at) }
+{
+    let mut corners = CornerWords {
+        room: [0; 510],
+        count: 2 * usize::from(byte_at(file, at)),
+    };
+    fill_room(file, at, &mut corners.room);
+    corners
 }
 
 // Whether every word is at most 32,767.

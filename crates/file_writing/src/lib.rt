@@ -69,10 +69,9 @@ fn write_block(file: &[u8], at: usize, target: u8, out: &mut [u8], to: usize) ->
         out.old out.new to result }
 {
     let count = byte_at(file, at);
-    let mut room = [0u16; 510];
-    let words = corner_words(file, at, &mut room);
+    let corners = corner_words(file, at);
     out[to] = count;
-    write_corners(words, target, out, to + 1)
+    write_corners(corners.words(), target, out, to + 1)
 }
 
 // Writes the fields of the record at a position.

@@ -126,8 +126,8 @@ fn corners_right(file: &[u8], at: usize) -> bool
     if byte_at(file, at) != 1 || byte_at(file, 3) != 2 {
         return true;
     }
-    let mut room = [0u16; 510];
-    inside(corner_words(file, at + 2, &mut room))
+    let corners = corner_words(file, at + 2);
+    inside(corners.words())
 }
 
 // The whole record at a position, whose kind is known.

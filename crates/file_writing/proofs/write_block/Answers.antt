@@ -1,3 +1,4 @@
+use Rattle.std.proofs.Common.{◌∙◌}
 use Rattle.file_writing.proofs.Parts.{block_first, block_room, block_out, same_set}
 use Rattle.file_writing.proofs.write_block.Goals as goal
 
@@ -5,10 +6,10 @@ pub bounds-out-to : goal.bounds-out-to
 bounds-out-to c = search block_first
 
 pub write_corners-requires : goal.write_corners-requires
-write_corners-requires c = search block_room
+write_corners-requires c = block_room _ _ _ _ _ c.byte_at-count.ensures (c.words.ensures ∙ c.corner_words-corners.ensures.1) _ _ c.requires.2
 
 pub shape_of-out : goal.shape_of-out
 shape_of-out c = search same_set
 
 pub returns : goal.returns
-returns c = search block_out
+returns c = block_out _ _ _ _ _ c.byte_at-count.ensures (c.words.ensures ∙ c.corner_words-corners.ensures.1) _ _ _ _ c.requires.2 c.write_corners.ensures
