@@ -1,7 +1,7 @@
 // The edits whose arguments stand in a yard file: the fields at a position, read and handed to the call.
 #![tactic(auto)]
 
-ghost use Rattle.std.specs.Prelude.{◌≡◌, ◌+◌, ◌≤◌, length, ◌*◌, take};
+ghost use Rattle.std.specs.Prelude.{◌≡◌, ◌+◌, ◌≤◌, length};
 ghost use Rattle.geometry.specs.Words.{point_of};
 ghost use Rattle.tables.specs.Tables.{tables};
 ghost use Rattle.book.specs.Book.{add_block, move_block, add_run, move_run, set_charge};
@@ -12,7 +12,7 @@ ghost use Rattle.refusals.specs.Numbers.{answer_of};
 
 use block_edits::{add_block, move_block};
 use charge_edits::set_charge;
-use file_words::{CornerWords, corner_words, displacement, field};
+use file_words::{corners_in, displacement, field};
 use geometry::Place;
 use refusals::Refusal;
 use run_edits::{add_run, move_run};
@@ -25,15 +25,6 @@ fn place_in(file: &[u8], at: usize) -> Place
     let east = field(file, at);
     let north = field(file, at + 2);
     Place { east, north }
-}
-
-// The words of a block's corners. Kept apart, so that what makes them is off the stack before the block is added.
-#[inline(never)]
-fn corners_at(file: &[u8], at: usize) -> CornerWords
-    requires { (at + block_size (byte file.now 3) (byte file.now at) ≤ length file.now) × (length file.now ≤ 8192) }
-    ensures { (result.count ≡ 2 * byte file.now at) × (take result.count result.room ≡ corner_words file.now at) }
-{
-    corner_words(file, at)
 }
 
 // Adds the block whose count byte stands at a position.
@@ -52,8 +43,8 @@ pub fn add_block_at(
         (tables blocks.old runs.old pairs.old routes.old totals.old)
         (answer_of result) (tables blocks.new runs.new pairs.new routes.new totals.new) }
 {
-    let corners = corners_at(file, at);
-    let words = corners.words();
+    let mut room = [0u16; 510];
+    let words = corners_in(file, at, &mut room);
     add_block(blocks, runs, pairs, routes, totals, number, words)
 }
 

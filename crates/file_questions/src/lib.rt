@@ -8,7 +8,7 @@ ghost use Rattle.file_records.specs.inner.Asked.{asked, everyone, size_in};
 ghost use Rattle.refusals.specs.Numbers.{answer_of};
 ghost use Rattle.file_questions.specs.inner.Questions.{number_asked};
 
-use file_words::{block_size, byte_at, corner_words, inside};
+use file_words::{block_size, byte_at, corners_in, inside};
 use refusals::Refusal;
 use yardfile::{body_size, head_right, record_whole};
 
@@ -50,8 +50,8 @@ fn passes(file: &[u8], at: usize, question: Question) -> bool
     if byte_at(file, at) != 1 {
         return true;
     }
-    let corners = corner_words(file, at + 2);
-    let words = corners.words();
+    let mut room = [0u16; 510];
+    let words = corners_in(file, at + 2, &mut room);
     if let Question::Near = question {
         return near(words);
     }

@@ -10,15 +10,13 @@ use lib.Dec.{leb, eqb}
 use lib.IntN.{ℤ}
 use mir.Syntax.{w8, w16}
 use mir.Val.{to_z, of_z}
-use Rattle.std.specs.Bool.{MatchBool}
-use Rattle.std.specs.List.{AllWithin, HoldsAt}
 use Rattle.std.proofs.Common.{length-append, length-drop}
 use Rattle.std.proofs.lemmas.List.{take-append-le, nil_from_length}
 use borrow.Author.Tests.{eqb-true}
 use borrow.Rule.Slice.PartMut.{put_mid}
 use Rattle.std.proofs.lemmas.Slice.{take-put_mid}
 use Rattle.std.proofs.lemmas.Int.{of_z-to_z}
-use lib.ListN.{length, get_or, set, take, drop, length-set, length-take}
+use lib.ListN.{length, get_or, set, take, drop, length-set}
 use lib.Seq.{take_all, get_or-set_same, get_or-set_other, ext_get_or, get_or-take, length-take-le, take-suc-set, append_snoc}
 use borrow.Author.Tests.{lt-ltb, le-ltb, le-leb, lt-leb, eq-eqb, ne_eqb}
 use Rattle.lists.proofs.Every.{every_yes, every_no}
@@ -182,11 +180,15 @@ module _ (f : List ℕ) (at v b : ℕ) (e : v ≡ byte f 3) (p : b ≡ byte f at
         pub room_short : at + 5 + 2 * b ≤ length f + 2
         room_short = omega (arith, block_short (byte f 3) (byte f at) other some)
 
--- whether each word is inside, from the test of each
-pub inside_when : (ws : List ℕ) (r : Bool) → MatchBool r (AllWithin (λ w. w ≤ 32767) ws 0 (length ws)) ((k : ℕ) × (k < length ws) × HoldsAt (λ w. 32767 < w) ws k) → r ≡ inside ws
-unfolding inside
-inside_when ws true h = sym (every_yes (λ w. leb w 32767) ws 0 (λ k l. le-leb (get_or ws k 0) 32767 (h k 0 (omega arith) l)))
-inside_when ws false (k, l, h) = sym (every_no (λ w. leb w 32767) ws k 0 l (lt-leb (get_or ws k 0) 32767 (h 0)))
+-- whether each word is inside, by the first that is not
+module _ (ws : List ℕ) where
+  pub inside_no : (k : ℕ) → k < length ws → 32767 < get_or ws k 0 → false ≡ inside ws
+  unfolding inside
+  inside_no k l h = sym (every_no (λ w. leb w 32767) ws k 0 l (lt-leb (get_or ws k 0) 32767 h))
+
+  pub inside_yes : (n : ℕ) → length ws ≤ n → ((k : ℕ) → k < n → get_or ws k 0 ≤ 32767) → true ≡ inside ws
+  unfolding inside
+  inside_yes n e h = sym (every_yes (λ w. leb w 32767) ws 0 (λ k l. le-leb (get_or ws k 0) 32767 (h k (omega arith))))
 
 -- the part of the room that a block's words take
 pub room_part : (b : ℕ) (room : List ℕ) → length room ≡ 510 → b < 256 → length (take (2 * b) room) ≡ 2 * b
@@ -232,6 +234,3 @@ corners_count f at b ws e q = rw e (sym (ap length q ∙ corners_length f at))
 
 pub corners_back : (f : List ℕ) (at k : ℕ) (room part : List ℕ) → part ≡ corner_words f at → take (2 * byte f at) (put_mid 0 k room part) ≡ corner_words f at
 corners_back f at k room part h = take-put_mid 0 k room part (2 * byte f at) (omega (arith, ap length h, corners_length f at)) (omega arith) ∙ h
-
-pub corners_held : (f : List ℕ) (at n : ℕ) (room : List ℕ) → n ≡ 2 * byte f at → take (2 * byte f at) room ≡ corner_words f at → n ≤ length room
-corners_held f at n room e h = omega (arith, length-take (2 * byte f at) room, ap length h, corners_length f at)

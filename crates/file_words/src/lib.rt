@@ -68,23 +68,6 @@ fn put_steps(file: &[u8], at: usize, words: &mut [u16])
     }
 }
 
-// The words of a block's corners: the first ones of the room for 510.
-#[derive(Clone, Copy)]
-pub struct CornerWords {
-    pub room: [u16; 510],
-    pub count: usize,
-    ghost within: { count ≤ length room },
-}
-
-impl CornerWords {
-    // These words alone.
-    pub fn words(&self) -> &[u16]
-        ensures { result.now ≡ take self.now.count self.now.room }
-    {
-        &self.room[..self.count]
-    }
-}
-
 // Fills words with those of the corners whose count stands at a position.
 fn fill_corners(file: &[u8], at: usize, words: &mut [u16])
     requires { (at + block_size (byte file.now 3) (byte file.now at) ≤ length file.now) × (length file.now ≤ 8192)
@@ -108,23 +91,34 @@ fn fill_room(file: &[u8], at: usize, room: &mut [u16; 510])
     fill_corners(file, at, &mut room[..count]);
 }
 
-// The words of the corners whose count stands at a position. A part of its callers, so that the room is made where they use it.
-#[inline(always)]
-pub fn corner_words(file: &[u8], at: usize) -> CornerWords
+// The words of the corners whose count stands at a position, in the front of 510.
+pub fn corner_words(file: &[u8], at: usize) -> [u16; 510]
     requires { (at + block_size (byte file.now 3) (byte file.now at) ≤ length file.now) × (length file.now ≤ 8192) }
-    ensures { (result.count ≡ 2 * byte file.now at) × (take result.count result.room ≡ corner_words file.now at) }
+    ensures { take (2 * byte file.now at) result ≡ corner_words file.now at }
 {
-    let mut corners = CornerWords {
-        room: [0; 510],
-        count: 2 * usize::from(byte_at(file, at)),
-    };
-    fill_room(file, at, &mut corners.room);
-    corners
+    let mut room = [0; 510];
+    fill_room(file, at, &mut room);
+    room
+}
+
+// The same words, put into the room that is lent.
+pub fn corners_in<'a>(file: &[u8], at: usize, room: &'a mut [u16; 510]) -> &'a [u16]
+    requires { (at + block_size (byte file.now 3) (byte file.now at) ≤ length file.now) × (length file.now ≤ 8192) }
+    ensures { result.now ≡ corner_words file.now at }
+{
+    fill_room(file, at, room);
+    &room[..2 * usize::from(byte_at(file, at))]
 }
 
 // Whether every word is at most 32,767.
+#[tactic(auto, using(crate::proofs::Corners::inside_no, crate::proofs::Corners::inside_yes))]
 pub fn inside(words: &[u16]) -> bool
     ensures { result ≡ inside words.now }
 {
-    words.iter().all(|word| *word <= 32767)
+    for word in words {
+        if 32767 < *word {
+            return false;
+        }
+    }
+    true
 }

@@ -69,9 +69,9 @@ fn write_block(file: &[u8], at: usize, target: u8, out: &mut [u8], to: usize) ->
         out.old out.new to result }
 {
     let count = byte_at(file, at);
-    let corners = corner_words(file, at);
+    let room = corner_words(file, at);
     out[to] = count;
-    write_corners(corners.words(), target, out, to + 1)
+    write_corners(&room[..2 * usize::from(count)], target, out, to + 1)
 }
 
 // Writes the fields of the record at a position.

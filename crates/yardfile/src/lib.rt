@@ -5,7 +5,7 @@ ghost use Rattle.std.specs.Prelude.{◌≡◌, ◌+◌, ◌<◌, ◌≤◌, leng
 ghost use Rattle.yardfile.specs.File.{kind_byte, kind_of, kind_at, head_right, plain_words, body_size, record_whole, corners_right, item_at, read_at};
 ghost use Rattle.file_words.specs.Words.{byte};
 
-use file_words::{block_size, byte_at, corner_words, inside};
+use file_words::{block_size, byte_at, corners_in, inside};
 use refusals::Refusal;
 
 // What a record asks for, in the order of their bytes.
@@ -126,8 +126,8 @@ fn corners_right(file: &[u8], at: usize) -> bool
     if byte_at(file, at) != 1 || byte_at(file, 3) != 2 {
         return true;
     }
-    let corners = corner_words(file, at + 2);
-    inside(corners.words())
+    let mut room = [0u16; 510];
+    inside(corners_in(file, at + 2, &mut room))
 }
 
 // The whole record at a position, whose kind is known.

@@ -1,4 +1,4 @@
-use Rattle.std.proofs.Common.{◌∙◌, rules}
+use Rattle.std.proofs.Common.{rules}
 use Rattle.yardfile.proofs.Places.{right_other, right_full, right_short, block_inside}
 use Rattle.yardfile.proofs.corners_right.Goals as goal
 use Rattle.yardfile.proofs.corners_right.Goals.{then-byte_at-ne1-via-then-byte_at-ne1, then-byte_at-ne1-via-else-byte_at-ne1+then-byte_at-ne2}
@@ -11,9 +11,9 @@ returns-then-byte_at-ne1 c =
           right_full _ _ _ c.byte_at.ensures w.if-byte_at-ne1.false _ w.byte_at-else-byte_at-ne1.ensures w.if-byte_at-ne2.true
     ]
 
-pub corner_words-corners-requires : goal.corner_words-corners-requires
-corner_words-corners-requires c = (block_inside _ _ _ c.byte_at.ensures c.if-byte_at-ne1.false c.requires.0, search rules)
+pub corners_in-requires : goal.corners_in-requires
+corners_in-requires c = (block_inside _ _ _ c.byte_at.ensures c.if-byte_at-ne1.false c.requires.0, search rules)
 
 pub returns : goal.returns
 returns c =
-    right_short _ _ _ c.byte_at.ensures c.if-byte_at-ne1.false _ _ _ c.byte_at-else-byte_at-ne1.ensures c.if-byte_at-ne2.false (c.words.ensures ∙ c.corner_words-corners.ensures.1) c.inside.ensures
+    right_short _ _ _ c.byte_at.ensures c.if-byte_at-ne1.false _ _ _ c.byte_at-else-byte_at-ne1.ensures c.if-byte_at-ne2.false c.corners_in.ensures c.inside.ensures
