@@ -126,6 +126,10 @@ fn corners_right(file: &[u8], at: usize) -> bool
     if byte_at(file, at) != 1 || byte_at(file, 3) != 2 {
         return true;
     }
+    // without corners no room is made, which takes longer than the rest
+    if byte_at(file, at + 2) == 0 {
+        return true;
+    }
     let mut room = [0u16; 510];
     inside(corners_in(file, at + 2, &mut room))
 }

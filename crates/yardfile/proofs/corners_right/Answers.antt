@@ -1,5 +1,5 @@
 use Rattle.std.proofs.Common.{rules}
-use Rattle.yardfile.proofs.Places.{right_other, right_full, right_short, block_inside}
+use Rattle.yardfile.proofs.Places.{right_other, right_full, right_none, right_short, block_inside}
 use Rattle.yardfile.proofs.corners_right.Goals as goal
 use Rattle.yardfile.proofs.corners_right.Goals.{then-byte_at-ne1-via-then-byte_at-ne1, then-byte_at-ne1-via-else-byte_at-ne1+then-byte_at-ne2}
 
@@ -10,6 +10,10 @@ returns-then-byte_at-ne1 c =
       | then-byte_at-ne1-via-else-byte_at-ne1+then-byte_at-ne2 w ↦
           right_full _ _ _ c.byte_at.ensures w.if-byte_at-ne1.false _ w.byte_at-else-byte_at-ne1.ensures w.if-byte_at-ne2.true
     ]
+
+pub returns-then-byte_at-eq0 : goal.returns-then-byte_at-eq0
+returns-then-byte_at-eq0 c =
+    right_none _ _ _ c.byte_at.ensures c.if-byte_at-ne1.false _ _ c.byte_at-else-byte_at-ne1.ensures c.if-byte_at-ne2.false c.byte_at-2.ensures c.if-byte_at-eq0.true
 
 pub corners_in-requires : goal.corners_in-requires
 corners_in-requires c = (block_inside _ _ _ c.byte_at.ensures c.if-byte_at-ne1.false c.requires.0, search rules)
