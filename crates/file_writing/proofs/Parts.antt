@@ -89,6 +89,10 @@ same_set x y i a h = h ∙ length-set x i a
 pub same_two : (x y : List ℕ) (i j a b : ℕ) → length y ≡ length (set (set x i a) j b) → length y ≡ length x
 same_two x y i j a b h = h ∙ (length-set (set x i a) j b ∙ length-set x i a)
 
+-- the front of the room for a block's words
+pub corner_part : (f : List ℕ) (at n : ℕ) (room : List ℕ) → n ≡ byte f at → take (2 * byte f at) room ≡ corner_words f at → take (2 * n) room ≡ corner_words f at
+corner_part f at n room e w = rw e w
+
 -- a block: its count and its corners
 module _ (f : List ℕ) (at v c : ℕ) (words : List ℕ) (e : c ≡ byte f at) (w : words ≡ corner_words f at) where
   pub block_room : (p : ℕ) (out : List ℕ) → p + block_size v (byte f at) ≤ length out → p + 1 + length (corner_bytes v words) ≤ length (set out p c)

@@ -126,7 +126,7 @@ fn corners_right(file: &[u8], at: usize) -> bool
     if byte_at(file, at) != 1 || byte_at(file, 3) != 2 {
         return true;
     }
-    // without corners no room is made, which takes longer than the rest
+    // a block without corners needs no room; to fill that with zeros would take longer than all the rest
     if byte_at(file, at + 2) == 0 {
         return true;
     }
